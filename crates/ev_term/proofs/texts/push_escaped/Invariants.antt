@@ -1,0 +1,8 @@
+use Rattle.std.proofs.Common.{◌≡◌, ◌++◌, drop}
+use Rattle.std.specs.List.{flat_map}
+use Rattle.ev_term.specs.Text.{escape}
+use Rattle.ev_term.proofs.texts.push_escaped.Given as goal
+
+-- what was written and what is left are all
+abbrev pub invariant-loop-byte : goal.invariant-loop-byte
+invariant-loop-byte l = l.out.items ++ flat_map escape (drop l.byte-index l.text) ≡ l.initial.out.items ++ flat_map escape l.text

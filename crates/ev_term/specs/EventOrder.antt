@@ -1,0 +1,55 @@
+-- The orders of atoms, spans, events and detections. Only equal ones tie.
+use Rattle.std.specs.Prelude.{ℕ, ◌≡◌, refl, List}
+use Rattle.std.specs.Ordering.{nat_cmp, on, then_cmp}
+use Rattle.std.specs.declared.cmp.Ordering.{Ordering}
+use Rattle.std.proofs.Common.{ap, sym, ◌∙◌}
+use Rattle.ordered_lists.specs.Canon.{Exact}
+use Rattle.ordered_lists.specs.Orders.{exact_numbers, exact_on, exact_then}
+use Rattle.ev_term.specs.Spans.{PlainSpan}
+use Rattle.ev_term.specs.Happenings.{PlainEvent}
+use Rattle.ev_term.specs.TermOrder.{term_cmp, bytes_cmp, args_cmp, comps, exact_terms}
+use Rattle.ev_term.specs.declared.terms.Term.{Term, out-Term}
+use Rattle.ev_term.specs.declared.terms.Term.TheVariants as made
+use Rattle.ev_term.specs.declared.terms.Term.TheOpen.{Term-F}
+use Rattle.ev_term.specs.declared.terms.Term.TheOpen.Term-F.{Comp}
+use Rattle.ev_term.specs.declared.atoms.Atom.{Atom}
+use Rattle.ev_term.specs.declared.events.Detection.{Detection}
+
+-- an atom as the compound of its name and its arguments
+abbrev pub as_term : Atom → Term
+as_term a = made.Comp a.name a.args
+
+-- by name, number of arguments and arguments from the left
+abbrev pub atom_cmp : Atom → Atom → Ordering
+atom_cmp = on as_term term_cmp
+
+-- by start and end
+abbrev pub span_cmp : PlainSpan → PlainSpan → Ordering
+span_cmp = then_cmp (on (λ s. s.start) nat_cmp) (on (λ s. s.end) nat_cmp)
+
+-- by time and atom
+abbrev pub event_cmp : PlainEvent → PlainEvent → Ordering
+event_cmp = then_cmp (on (λ e. e.time) nat_cmp) (on (λ e. e.atom) atom_cmp)
+
+-- by atom and span
+abbrev pub detection_cmp : Detection → Detection → Ordering
+detection_cmp = then_cmp (on (λ d. d.atom) atom_cmp) (on (λ d. d.span) span_cmp)
+
+as_term_apart : (a b : Atom) → as_term a ≡ as_term b → a ≡ b
+as_term_apart a b e =
+    let same : Comp a.name a.args ≡ Comp b.name b.args = sym (made.outs-Comp a.name a.args) ∙ ap out-Term e ∙ made.outs-Comp b.name b.args in
+    let names : a.name ≡ b.name = cc in
+    let args : a.args ≡ b.args = cc in
+    λ i. record { name = names i; args = args i }
+
+pub exact_atoms : Exact atom_cmp
+exact_atoms = exact_on as_term as_term_apart exact_terms
+
+pub exact_spans : Exact span_cmp
+exact_spans = exact_then (λ s. s.start) (λ s. s.end) (λ x y p q i. record { start = p i; end = q i }) exact_numbers exact_numbers
+
+pub exact_events : Exact event_cmp
+exact_events = exact_then (λ e. e.time) (λ e. e.atom) (λ x y p q i. record { time = p i; atom = q i }) exact_numbers exact_atoms
+
+pub exact_detections : Exact detection_cmp
+exact_detections = exact_then (λ d. d.atom) (λ d. d.span) (λ x y p q i. record { atom = p i; span = q i }) exact_atoms exact_spans

@@ -1,0 +1,18 @@
+//! Terms, atoms, events and spans as shared values, their order and their canonical text, and what lines of events say.
+#![tactic(auto)]
+
+mod atoms;
+mod compare;
+mod events;
+mod lists;
+mod names;
+mod terms;
+mod texts;
+
+pub use atoms::{Atom, NameArity, PatAtom};
+pub use compare::{cmp_atoms, cmp_detections, cmp_events, cmp_spans, cmp_terms};
+pub use events::{Detection, Event, Span};
+pub use lists::Shared;
+pub use names::Name;
+pub use terms::{Pat, Pats, Slot, Term, Terms};
+pub use texts::{atom_text, term_text};

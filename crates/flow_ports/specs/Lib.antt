@@ -1,0 +1,6 @@
+pub mod Calls
+pub mod Flow
+pub mod Held
+pub mod MemShelf
+pub mod MemSink
+pub mod MemSource

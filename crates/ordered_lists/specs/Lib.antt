@@ -1,0 +1,5 @@
+pub mod Lists
+pub mod Canon
+pub mod FromSort
+pub mod Members
+pub mod Orders

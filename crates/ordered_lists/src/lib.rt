@@ -1,0 +1,6 @@
+//! Lists in a total order with each element once, as the sets of their elements.
+#![tactic(auto)]
+
+mod sorted;
+
+pub use sorted::{insert_unique, is_member, sort_unique};
