@@ -3,7 +3,7 @@ use Rattle.std.proofs.Common.{◌≡◌, ℕ, ◌+◌, ◌<◌, List, [], ◌∷
 use Rattle.std.specs.List.{join_with_byte}
 use Rattle.std.proofs.lemmas.List.{drop_more}
 use Rattle.ev_term.specs.declared.terms.Term.{Term}
-use Rattle.ev_term.specs.Text.{term_text, applied}
+use Rattle.ev_term.specs.Text.{term_text}
 
 -- texts, each behind a comma
 abbrev pub behind_commas : List (List ℕ) → List ℕ

@@ -1,5 +1,5 @@
 -- The orders of atoms, spans, events and detections. Only equal ones tie.
-use Rattle.std.specs.Prelude.{ℕ, ◌≡◌, refl, List}
+use Rattle.std.specs.Prelude.{◌≡◌}
 use Rattle.std.specs.Ordering.{nat_cmp, on, then_cmp}
 use Rattle.std.specs.declared.cmp.Ordering.{Ordering}
 use Rattle.std.proofs.Common.{ap, sym, ◌∙◌}
@@ -7,10 +7,9 @@ use Rattle.ordered_lists.specs.Canon.{Exact}
 use Rattle.ordered_lists.specs.Orders.{exact_numbers, exact_on, exact_then}
 use Rattle.ev_term.specs.Spans.{PlainSpan}
 use Rattle.ev_term.specs.Happenings.{PlainEvent}
-use Rattle.ev_term.specs.TermOrder.{term_cmp, bytes_cmp, args_cmp, comps, exact_terms}
+use Rattle.ev_term.specs.TermOrder.{term_cmp, exact_terms}
 use Rattle.ev_term.specs.declared.terms.Term.{Term, out-Term}
 use Rattle.ev_term.specs.declared.terms.Term.TheVariants as made
-use Rattle.ev_term.specs.declared.terms.Term.TheOpen.{Term-F}
 use Rattle.ev_term.specs.declared.terms.Term.TheOpen.Term-F.{Comp}
 use Rattle.ev_term.specs.declared.atoms.Atom.{Atom}
 use Rattle.ev_term.specs.declared.events.Detection.{Detection}

@@ -1,5 +1,5 @@
 -- The lines of a list of bytes. `part` is what has come of a line before.
-use Rattle.std.specs.Prelude.{ℕ, ◌≡◌, Bool, true, false, cond, if◌then◌else◌, ◌==◌, List, [], ◌∷◌, ◌++◌, map}
+use Rattle.std.specs.Prelude.{ℕ, ◌≡◌, Bool, true, false, cond, if◌then◌else◌, ◌==◌, List, [], ◌∷◌, ◌++◌}
 use Rattle.std.specs.List.{slice_split, onto_first}
 use Rattle.std.proofs.Common.{refl, ap, sym, ◌∙◌, append_assoc, append-nil}
 
@@ -60,6 +60,7 @@ with_first part (b ∷ bytes) = at (b == 10)
     more : (ps : List (List ℕ)) → lines_of_parts (part ∷ onto_first b ps) ≡ without_cr part ∷ lines_of_parts (onto_first b ps)
     more [] = refl
     more (p ∷ ps) = refl
+
     at : (t : Bool) → lines_of_parts (part ∷ cond t ([] ∷ slice_split is_feed bytes) (onto_first b (slice_split is_feed bytes))) ≡ without_cr part ∷ lines_of_parts (cond t ([] ∷ slice_split is_feed bytes) (onto_first b (slice_split is_feed bytes)))
     at true = refl
     at false = more (slice_split is_feed bytes)
@@ -71,6 +72,7 @@ behind_nothing (b ∷ bytes) = at (b == 10)
     more : (ps : List (List ℕ)) → behind [] (onto_first b ps) ≡ onto_first b ps
     more [] = refl
     more (p ∷ ps) = refl
+
     at : (t : Bool) → behind [] (cond t ([] ∷ slice_split is_feed bytes) (onto_first b (slice_split is_feed bytes))) ≡ cond t ([] ∷ slice_split is_feed bytes) (onto_first b (slice_split is_feed bytes))
     at true = refl
     at false = more (slice_split is_feed bytes)

@@ -1,5 +1,5 @@
 -- Inputs, how a line is judged, and the events that are present after a history of inputs.
-use Rattle.std.specs.Prelude.{ℕ, ◌≡◌, Option, Some, None, List, [], ◌∷◌, ◌++◌, map}
+use Rattle.std.specs.Prelude.{◌≡◌, Option, Some, None, List, [], ◌∷◌, ◌++◌, map}
 use Rattle.std.proofs.Common.{refl, ap, ◌∙◌}
 use Rattle.ordered_lists.specs.Canon.{canon, place}
 use Rattle.ordered_lists.specs.Members.{canon-snoc}

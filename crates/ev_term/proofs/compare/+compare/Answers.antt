@@ -1,7 +1,7 @@
 use Rattle.std.proofs.Common.{◌≡◌, ◌∙◌, ap, sym}
 use Rattle.std.specs.Ordering.{ordering_then}
 use Rattle.std.specs.declared.cmp.Ordering.TheVariants.{Equal}
-use Rattle.ev_term.specs.TermOrder.{term_cmp, args_cmp, bytes_cmp, comps}
+use Rattle.ev_term.specs.TermOrder.{args_cmp, bytes_cmp, comps}
 use Rattle.ev_term.proofs.compare.+compare.Goals as goal
 
 pub cmp_terms-returns-in-Equal : goal.cmp_terms-returns-in-Equal

@@ -1,7 +1,7 @@
-use Rattle.std.proofs.Common.{rules, ◌≡◌, ◌++◌, ◌∙◌, ap, map}
+use Rattle.std.proofs.Common.{rules, ◌∙◌, ap, map}
 use Rattle.std.specs.List.{join_with_byte}
-use Rattle.ev_term.specs.Text.{term_text, applied, term_text-Comp}
-use Rattle.ev_term.proofs.Commas.{first_written, next_written, applied_written}
+use Rattle.ev_term.specs.Text.{term_text, term_text-Comp}
+use Rattle.ev_term.proofs.Commas.{first_written, applied_written}
 use Rattle.ev_term.proofs.texts.+text.Goals as goal
 
 pub push_args-loop-i-init : goal.push_args-loop-i-init

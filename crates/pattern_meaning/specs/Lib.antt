@@ -1,0 +1,4 @@
+pub mod Patterns
+pub mod PatternRows
+pub mod Standing
+pub mod Scratch
