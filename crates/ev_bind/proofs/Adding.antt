@@ -1,18 +1,18 @@
 -- One more pair in a binding.
-use Rattle.std.proofs.Common.{ℕ, inl, inr, ◌+◌, ◌<◌, ◌≤◌, ◌≡◌, refl, ap, sym, ◌∙◌, subst, arith, add_comm, add-one, Bool, true, false, cond, not, ◌&&◌, ◌||◌, Option, Some, None, List, [], ◌∷◌, ◌++◌, take, drop}
+use Rattle.std.proofs.Common.{ℕ, inl, inr, ◌+◌, ◌<◌, ◌≤◌, ◌≡◌, refl, ap, sym, ◌∙◌, arith, add_comm, add-one, Bool, true, false, cond, not, ◌&&◌, ◌||◌, Option, Some, None, List, [], ◌∷◌, ◌++◌}
 use Rattle.std.specs.Prelude.{◌==◌, nat_lt, option_map, insert}
-use Rattle.std.specs.List.{list_all, list_any, prefix_len}
+use Rattle.std.specs.List.{list_all, prefix_len}
 use Rattle.std.specs.Ordering.{is_eq, nat_cmp, ordering_then, MatchOrdering}
 use Rattle.std.specs.Cmp.{tied_itself, ranks}
 use Rattle.std.specs.declared.cmp.Ordering.{Ordering}
 use Rattle.std.specs.declared.cmp.Ordering.TheVariants.{Less, Equal, Greater}
 use Rattle.std.proofs.lemmas.Bool.{true≢false, and_parts, and_from, or_cases, or_left, or_right, eq-eqb, eqb-false, ne_eqb, lt-ltb, le-ltb, ltb-true, not-true, not_from_false}
 use Rattle.std.proofs.lemmas.List.Folds.{list_all-append}
-use Rattle.ordered_lists.specs.Canon.{canon, place, placed, has, AllAbove, Rising, canon_itself}
+use Rattle.ordered_lists.specs.Canon.{place, placed, has, AllAbove, Rising, canon_itself}
 use Rattle.ordered_lists.specs.Members.{canon-snoc}
 use Rattle.ev_term.specs.TermOrder.{term_cmp, exact_terms}
 use Rattle.ev_term.specs.declared.terms.Term.{Term}
-use Rattle.ev_bind.specs.Bindings.{Pair, Pairs, pair_cmp, alike, single, union_of, join, IsBinding, value_at, exact_pairs, single_within}
+use Rattle.ev_bind.specs.Bindings.{Pair, Pairs, pair_cmp, alike, single, join, IsBinding, value_at, exact_pairs, single_within}
 
 -- the pairs with one more at its place; none where its slot has another value
 abbrev pub added_at : Ordering → Pair → Pair → Pairs → Option Pairs → Option Pairs

@@ -1,3 +1,5 @@
 pub mod Adding
 pub mod Comparing
 pub mod Merging
+pub mod Fitting
+pub mod Uniting

@@ -3,7 +3,7 @@ use Rattle.std.proofs.Common.{ℕ, ◌≡◌, refl, ap, sym, ◌∙◌, subst, a
 use Rattle.std.specs.Prelude.{option_and_then}
 use Rattle.std.specs.List.{list_all}
 use Rattle.std.proofs.lemmas.List.{drop_more, drop_all}
-use Rattle.std.proofs.lemmas.Bool.{true≢false, or_left, or_right}
+use Rattle.std.proofs.lemmas.Bool.{true≢false}
 use Rattle.ordered_lists.specs.Canon.{canon, has, has-append}
 use Rattle.ev_term.specs.declared.terms.Term.{Term}
 use Rattle.ev_bind.specs.Bindings.{Pair, Pairs, pair_cmp, single, union_of, join, IsBinding, exact_pairs, union_same, union_of-itself, join_twice, join_comm, IsBinding-canon, all_has}

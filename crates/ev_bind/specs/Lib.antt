@@ -1,3 +1,4 @@
 pub mod Bindings
 pub mod Matching
 pub mod Rows
+pub mod Fits

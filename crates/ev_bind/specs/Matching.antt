@@ -1,5 +1,5 @@
 -- When an atom of a rule matches a ground atom, and what an argument of a rule is under a binding.
-use Rattle.std.specs.Prelude.{ℕ, ℤ, pos, ◌≡◌, if◌then◌else◌, ◌&&◌, ◌++◌, Option, Some, None, option_map, option_and_then, unwrap_or, List, [], ◌∷◌, map}
+use Rattle.std.specs.Prelude.{ℕ, ℤ, pos, ◌≡◌, if◌then◌else◌, ◌++◌, Option, Some, None, option_and_then, unwrap_or, List, [], ◌∷◌, map}
 use Rattle.std.specs.Ordering.{int_eq}
 use Rattle.std.specs.Str.{bytes_eq}
 use Rattle.std.proofs.Common.{refl, ap, ◌∙◌}

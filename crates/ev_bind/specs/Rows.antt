@@ -1,12 +1,11 @@
 -- The order of rows.
-use Rattle.std.specs.Prelude.{ℕ, ◌≡◌, List}
 use Rattle.std.specs.Ordering.{on, then_cmp}
 use Rattle.std.specs.Cmp.Lexicographic.{slice_cmp}
 use Rattle.std.specs.declared.cmp.Ordering.{Ordering}
 use Rattle.ordered_lists.specs.Canon.{Exact}
 use Rattle.ordered_lists.specs.Orders.{exact_then, exact_lists}
 use Rattle.ev_term.specs.EventOrder.{span_cmp, exact_spans}
-use Rattle.ev_bind.specs.Bindings.{Pairs, pair_cmp, exact_pairs}
+use Rattle.ev_bind.specs.Bindings.{pair_cmp, exact_pairs}
 use Rattle.ev_bind.specs.declared.rows.Row.{Row}
 
 -- by start, end and then the pairs from the left

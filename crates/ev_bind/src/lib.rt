@@ -3,12 +3,14 @@
 
 mod bindings;
 mod instances;
+mod laws;
 mod matching;
 mod pairs;
 mod rows;
 
 pub use bindings::Binding;
 pub use instances::{instance_atom, instance_of};
+pub use laws::{extensions_are_exact, matches_are_exact, unions_are_exact};
 pub use matching::match_atom;
 pub use rows::{Row, cmp_rows};
 

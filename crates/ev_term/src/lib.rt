@@ -6,6 +6,7 @@ mod compare;
 mod events;
 mod lists;
 mod names;
+mod operators;
 mod terms;
 mod texts;
 
@@ -14,5 +15,6 @@ pub use compare::{cmp_atoms, cmp_detections, cmp_events, cmp_spans, cmp_terms};
 pub use events::{Detection, Event, Span};
 pub use lists::Shared;
 pub use names::Name;
+pub use operators::{Edge, Op};
 pub use terms::{Pat, Pats, Slot, Term, Terms};
 pub use texts::{atom_text, term_text};

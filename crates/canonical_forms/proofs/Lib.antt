@@ -1,0 +1,9 @@
+pub mod Options
+pub mod NumberTexts
+pub mod ReadTexts
+pub mod Parts
+pub mod Words
+pub mod CutLaws
+pub mod EventLaws
+pub mod VarParts
+pub mod RuleLaws

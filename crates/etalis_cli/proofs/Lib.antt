@@ -1,0 +1,5 @@
+pub mod SessionLaws
+pub mod FeedLaws
+pub mod LineLaws
+pub mod ServeLaws
+pub mod TopLaws

@@ -1,0 +1,7 @@
+pub mod Output
+pub mod Rises
+pub mod StandsFor
+pub mod Feeds
+pub mod Outcome
+
+pub mod Run

@@ -1,0 +1,115 @@
+-- What the top call says.
+use Rattle.std.specs.Prelude.{◌≡◌, ℕ, ◌-◌, ◌⊎◌, Bool, true, not, ◌&&◌, ◌==◌, if◌then◌else◌, List, [], ◌∷◌, Option, Some, None, Result, Ok, Err, IfSome, ◌≤◌, String, string_bytes, length, take, codes, ⊤}
+use Rattle.std.specs.Str.{bytes_eq}
+use Rattle.std.specs.declared.alloc.Global.{Global}
+use Rattle.flow_ports.specs.Flow.{Gives}
+use Rattle.ev_term.specs.Lines.{ended}
+use Rattle.pattern_meaning.specs.Patterns.{RuleSet, rules_of_pair}
+use Rattle.canonical_forms.specs.RuleFile.{rule_held}
+use Rattle.etalis_cli.specs.Output.{start, replies, out_text}
+use Rattle.etalis_cli.specs.declared.serving.ServeFault.{ServeFault}
+use Rattle.etalis_cli.specs.declared.serving.ServeFault.TheVariants as fault
+use Rattle.etalis_cli.specs.declared.status.Status.{Status}
+use Rattle.etalis_cli.specs.declared.status.Status.TheVariants as status
+use Rattle.etalis_cli.specs.declared.status.Cause.{Cause}
+use Rattle.etalis_cli.specs.declared.status.Cause.TheVariants.{Done, Usage, RulesRefused, RulesUnread, InputUnread, WriteFault, Memory, TooLong}
+
+-- a name of a file: it doesn't begin with a dash, unless it is a dash alone
+abbrev pub is_name : List ℕ → Bool
+is_name [] = true
+is_name (b ∷ []) = true
+is_name (b ∷ c ∷ more) = not (b == 45)
+
+-- the name of the rule file, where the words are in form
+abbrev pub form : List (String Global) → Option (List ℕ)
+form [] = None
+form (mode ∷ []) = None
+form (mode ∷ name ∷ []) = if bytes_eq (string_bytes mode) (codes "run") && is_name (string_bytes name) then Some (string_bytes name) else None
+form (mode ∷ name ∷ word ∷ words) = None
+
+-- what the file of that form holds, where told
+abbrev pub file_of : Option (List ℕ) → (List ℕ → Option (List ℕ)) → Option (List ℕ)
+file_of None holds = None
+file_of (Some name) holds = holds name
+
+-- the file of that form may be asked for
+abbrev pub MayAsk : Option (List ℕ) → (List ℕ → Bool) → Type 0
+MayAsk None serves = ⊤
+MayAsk (Some name) serves = serves name ≡ true
+
+-- P holds of the rules that the file holds, where it is told and holds some
+abbrev pub OnRules : Option (List ℕ) → (RuleSet → Type 0) → Type 0
+OnRules file P = IfSome file (λ f. IfSome (rule_held f) (λ rule. P (rules_of_pair rule)))
+
+-- P holds of the bytes that were taken, where they are told
+abbrev pub OnTaken : Option (List ℕ) → Option (List ℕ) → (List ℕ → Type 0) → Type 0
+OnTaken None left' P = ⊤
+OnTaken (Some xs) None P = ⊤
+OnTaken (Some xs) (Some ys) P = P (take (length xs - length ys) xs)
+
+-- the rule file was read, and the source may have been
+abbrev pub WasServed : Status → Type 0
+WasServed status.Done = ⊤
+WasServed status.WriteFault = ⊤
+WasServed status.TooLong = ⊤
+WasServed status.Usage = ⊥
+WasServed status.RulesRefused = ⊥
+WasServed status.ReadFault = ⊥
+WasServed status.Memory = ⊥
+
+-- A first part of the whole output went out, with the replies to all lines whose line feed is among the bytes taken but the last 8192.
+abbrev pub PartFor : RuleSet → Option (List ℕ) → Option (List ℕ) → Option (List ℕ) → Option (List ℕ) → Type 0
+PartFor rs None left' got got' = ⊤
+PartFor rs (Some xs) None got got' = ⊤
+PartFor rs (Some xs) (Some ys) got got' = (n : ℕ) × Gives got got' (take n (out_text rs xs))
+    × (length (replies (start rs) (ended (take (length xs - length ys - 8192) xs))) ≤ n)
+
+-- the cause that a run over the lines ends with
+abbrev pub cause_of : Result (Unit {0}) ServeFault → Cause
+cause_of (Ok _) = Done
+cause_of (Err fault.Read) = InputUnread
+cause_of (Err fault.Write) = WriteFault
+cause_of (Err fault.Memory) = Memory
+cause_of (Err fault.TooLong) = TooLong
+
+-- the source may have been read before a run ended so
+abbrev pub IsServeCause : Cause → Type 0
+IsServeCause Done = ⊤
+IsServeCause Usage = ⊥
+IsServeCause RulesRefused = ⊥
+IsServeCause RulesUnread = ⊥
+IsServeCause InputUnread = ⊤
+IsServeCause WriteFault = ⊤
+IsServeCause Memory = ⊤
+IsServeCause TooLong = ⊤
+
+abbrev pub status_of : Cause → Status
+status_of Done = status.Done
+status_of Usage = status.Usage
+status_of RulesRefused = status.RulesRefused
+status_of RulesUnread = status.ReadFault
+status_of InputUnread = status.ReadFault
+status_of WriteFault = status.WriteFault
+status_of Memory = status.Memory
+status_of TooLong = status.TooLong
+
+-- what goes to the notes
+abbrev pub note_of : Cause → List ℕ
+note_of Done = []
+note_of Usage = codes "etalis: usage: etalis MODE RULES [--late N] [--seed N] [--lines N]\n"
+note_of RulesRefused = codes "etalis: rules: unbuilt\n"
+note_of RulesUnread = codes "etalis: cannot read rules\n"
+note_of InputUnread = codes "etalis: cannot read input\n"
+note_of WriteFault = codes "etalis: cannot write\n"
+note_of Memory = codes "etalis: out of memory\n"
+note_of TooLong = codes "etalis: input too long\n"
+
+-- a text is the note of a status, where the count of the shelf or that of the source may have risen
+abbrev pub IsNoteOf : Status → List ℕ → Type 0 → Type 0 → Type 0
+IsNoteOf status.Done text shelf input = text ≡ []
+IsNoteOf status.Usage text shelf input = text ≡ codes "etalis: usage: etalis MODE RULES [--late N] [--seed N] [--lines N]\n"
+IsNoteOf status.RulesRefused text shelf input = text ≡ codes "etalis: rules: unbuilt\n"
+IsNoteOf status.ReadFault text shelf input = (shelf × (text ≡ codes "etalis: cannot read rules\n")) ⊎ (input × (text ≡ codes "etalis: cannot read input\n"))
+IsNoteOf status.WriteFault text shelf input = text ≡ codes "etalis: cannot write\n"
+IsNoteOf status.Memory text shelf input = text ≡ codes "etalis: out of memory\n"
+IsNoteOf status.TooLong text shelf input = text ≡ codes "etalis: input too long\n"

@@ -1,0 +1,26 @@
+// How a run ends.
+
+/// The statuses, in the order of the exit statuses from 0 to 6.
+#[derive(Clone, Copy, Debug, PartialEq, Eq)]
+pub enum Status {
+    Done,
+    Usage,
+    RulesRefused,
+    ReadFault,
+    WriteFault,
+    Memory,
+    TooLong,
+}
+
+/// Why a run ended: a status, of which the read fault has two notes.
+#[derive(Clone, Copy, Debug, PartialEq, Eq)]
+pub enum Cause {
+    Done,
+    Usage,
+    RulesRefused,
+    RulesUnread,
+    InputUnread,
+    WriteFault,
+    Memory,
+    TooLong,
+}

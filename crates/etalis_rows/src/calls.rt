@@ -1,0 +1,85 @@
+// Single calls on their happy path, with ample memory.
+use ev_bind::{Binding, match_atom};
+use ev_term::{
+    Atom, Event, Name, Pat, PatAtom, Pats, Slot, Term, Terms, atom_text, term_text,
+};
+use pattern_meaning::{PairRule, scratch_pair};
+use std::alloc::{AllocError, Global};
+use std::test::Fail;
+
+fn atom(alloc: Global, name: &str, args: &[i64]) -> Result<Atom, AllocError> {
+    let mut terms = Vec::new(alloc);
+    for arg in args {
+        terms.push(Term::Num(*arg))?;
+    }
+    Ok(Atom {
+        name: Name::new(alloc, name)?,
+        args: Terms::new(alloc, terms)?,
+    })
+}
+
+// An atom of a rule; the variable of slot 0 and, for `None`, the wildcard.
+fn pattern(alloc: Global, name: &str, args: &[Option<Slot>]) -> Result<PatAtom, AllocError> {
+    let mut pats = Vec::new(alloc);
+    for arg in args {
+        pats.push(match arg {
+            Some(slot) => Pat::Var(*slot),
+            None => Pat::Any,
+        })?;
+    }
+    Ok(PatAtom {
+        name: Name::new(alloc, name)?,
+        args: Pats::new(alloc, pats)?,
+    })
+}
+
+#[test]
+fn names_and_lists_are_shared(rt: HostRuntime) -> Result<(), Fail> {
+    let alloc = rt.alloc();
+    let name = Name::new(alloc, "x")?;
+    assert_eq!(rt; name.share()?.as_str(), "x");
+    let one = atom(alloc, "a", &[7])?;
+    assert_eq!(rt; one.args.share()?.as_slice().len(), 1);
+    let pat = pattern(alloc, "a", &[None])?;
+    assert_eq!(rt; pat.args.share()?.as_slice().len(), 1);
+    Ok(())
+}
+
+#[test]
+fn texts_are_canonical(rt: HostRuntime) -> Result<(), Fail> {
+    let alloc = rt.alloc();
+    let mut out = Vec::new(alloc);
+    term_text(&Term::Text(Name::new(alloc, "a\"b")?), &mut out)?;
+    assert_eq!(rt; out.as_slice(), b"\"a\\\"b\"".as_slice());
+    out.clear();
+    atom_text(&atom(alloc, "a", &[7])?, &mut out)?;
+    assert_eq!(rt; out.as_slice(), b"a(7)".as_slice());
+    out.clear();
+    let deep = atom(alloc, "f", &[1, -2])?;
+    term_text(&Term::Comp(deep.name, deep.args), &mut out)?;
+    assert_eq!(rt; out.as_slice(), b"f(1,-2)".as_slice());
+    Ok(())
+}
+
+#[test]
+fn a_pair_is_found_from_scratch(rt: HostRuntime) -> Result<(), Fail> {
+    let alloc = rt.alloc();
+    let x = Some(Slot::new(0));
+    let rule = PairRule {
+        head: pattern(alloc, "ab", &[x])?,
+        left: pattern(alloc, "a", &[x])?,
+        right: pattern(alloc, "b", &[x])?,
+    };
+    let mut events = Vec::new(alloc);
+    events.push(Event::new(1, atom(alloc, "a", &[7])?))?;
+    events.push(Event::new(2, atom(alloc, "b", &[7])?))?;
+    let found = scratch_pair(alloc, &rule, &events)?;
+    assert_eq!(rt; found.len(), 1);
+    let detection = &found[0];
+    assert_eq!(rt; detection.span.start(), 1);
+    assert_eq!(rt; detection.span.end(), 2);
+    let mut out = Vec::new(alloc);
+    atom_text(&detection.atom, &mut out)?;
+    assert_eq!(rt; out.as_slice(), b"ab(7)".as_slice());
+    Ok(())
+}

@@ -1,0 +1,190 @@
+// Whole runs: what is written, and the status, for an input in pieces and with calls that fail.
+use etalis_cli::{Status, run};
+use flow_ports::{MemShelf, MemSink, MemSource};
+use std::alloc::{AllocError, Global};
+use std::test::Fail;
+
+const AB: &[u8] = b"ab(X) <- a(X) SEQ b(X).\n";
+
+// Which calls of the objects fail, and in which pieces the input comes.
+#[derive(Clone, Copy)]
+struct Setting<'a> {
+    pieces: &'a [usize],
+    shelf_fails: &'a [u64],
+    input_fails: &'a [u64],
+    out_fails: &'a [u64],
+    notes_fail: &'a [u64],
+}
+
+const CALM: Setting<'static> = Setting {
+    pieces: &[],
+    shelf_fails: &[],
+    input_fails: &[],
+    out_fails: &[],
+    notes_fail: &[],
+};
+
+// What a run over memory leaves.
+#[derive(Drop)]
+struct Ran {
+    status: Status,
+    out: MemSink,
+    notes: MemSink,
+}
+
+fn list(alloc: Global, words: &[&str]) -> Result<Vec<String>, AllocError> {
+    let mut list = Vec::new(alloc);
+    for word in words {
+        list.push(String::from_str(alloc, word)?)?;
+    }
+    Ok(list)
+}
+
+fn run_over(
+    alloc: Global,
+    words: &[&str],
+    rules: &[u8],
+    input: &[u8],
+    setting: Setting<'_>,
+) -> Result<Ran, AllocError> {
+    let words = list(alloc, words)?;
+    let file = (String::from_str(alloc, "r")?, rules.to_vec(alloc)?);
+    let mut files = Vec::new(alloc);
+    files.push(file)?;
+    let mut shelf = MemShelf::new(files, setting.shelf_fails.to_vec(alloc)?);
+    let mut source = MemSource::new(
+        input.to_vec(alloc)?,
+        setting.pieces.to_vec(alloc)?,
+        setting.input_fails.to_vec(alloc)?,
+    );
+    let mut out = MemSink::new(alloc, 4096, setting.out_fails.to_vec(alloc)?)?;
+    let mut notes = MemSink::new(alloc, 4096, setting.notes_fail.to_vec(alloc)?)?;
+    let status = run(alloc, &words, &mut shelf, &mut source, &mut out, &mut notes);
+    Ok(Ran { status, out, notes })
+}
+
+#[test]
+fn documented_outputs(rt: HostRuntime) -> Result<(), Fail> {
+    let rows: [(&[u8], &[u8]); 5] = [
+        (
+            b"+ 1 a(7)\n+ 2 b(7)\n",
+            b"ok 1\n+ 1 2 ab(7)\nok 2\nend 2\n",
+        ),
+        (b"+ 1 a(7)\n+ 1 b(7)\n", b"ok 1\nok 2\nend 2\n"),
+        (
+            b"+ 5 ab(9)\n+ 5 ab(9)\n",
+            b"+ 5 5 ab(9)\nok 1\nok 2\nend 2\n",
+        ),
+        (b"", b"end 0\n"),
+        (
+            b"+ 1 a(7)\n- 1 a(7)\n+ 1 a(7)\r\n+ 2 b(7)",
+            b"ok 1\nno 2 unbuilt\nok 3\n+ 1 2 ab(7)\nok 4\nend 4\n",
+        ),
+    ];
+    for row in rows {
+        let ran = run_over(rt.alloc(), &["run", "r"], AB, row.0, CALM)?;
+        assert_eq!(rt; ran.status, Status::Done);
+        assert_eq!(rt; ran.out.bytes(), row.1);
+        assert_eq!(rt; ran.notes.bytes(), b"".as_slice());
+    }
+    Ok(())
+}
+
+#[test]
+fn pieces_make_no_difference(rt: HostRuntime) -> Result<(), Fail> {
+    let setting = Setting {
+        pieces: &[1, 3, 1, 7, 2, 1, 1],
+        ..CALM
+    };
+    let input = b"+ 1 a(7)\r\n+ 4 a(-3)\n\n+ 2 b(7)";
+    let ran = run_over(rt.alloc(), &["run", "r"], AB, input, setting)?;
+    assert_eq!(rt; ran.status, Status::Done);
+    assert_eq!(rt;
+        ran.out.bytes(),
+        b"ok 1\nok 2\nno 3 unbuilt\n+ 1 2 ab(7)\nok 4\nend 4\n".as_slice()
+    );
+    Ok(())
+}
+
+// The first run above, with a source, an output, a shelf or notes of which one call fails.
+#[test]
+fn each_fault_has_its_status_and_note(rt: HostRuntime) -> Result<(), Fail> {
+    let none: &[u64] = &[];
+    let rows: [(&[u64], &[u64], &[u64], Status, &[u8], &[u8]); 8] = [
+        (&[1], none, none, Status::ReadFault, b"", b"etalis: cannot read rules\n"),
+        (&[2], none, none, Status::ReadFault, b"", b"etalis: cannot read rules\n"),
+        (none, &[1], none, Status::ReadFault, b"", b"etalis: cannot read input\n"),
+        (none, &[2], none, Status::ReadFault, b"ok 1\n", b"etalis: cannot read input\n"),
+        (
+            none,
+            &[3],
+            none,
+            Status::ReadFault,
+            b"ok 1\n+ 1 2 ab(7)\nok 2\n",
+            b"etalis: cannot read input\n",
+        ),
+        (none, none, &[1], Status::WriteFault, b"", b"etalis: cannot write\n"),
+        (none, none, &[2], Status::WriteFault, b"ok 1\n", b"etalis: cannot write\n"),
+        (
+            none,
+            none,
+            &[3],
+            Status::WriteFault,
+            b"ok 1\n+ 1 2 ab(7)\nok 2\n",
+            b"etalis: cannot write\n",
+        ),
+    ];
+    for row in rows {
+        let setting = Setting {
+            pieces: &[9, 9],
+            shelf_fails: row.0,
+            input_fails: row.1,
+            out_fails: row.2,
+            ..CALM
+        };
+        let input = b"+ 1 a(7)\n+ 2 b(7)\n";
+        let ran = run_over(rt.alloc(), &["run", "r"], AB, input, setting)?;
+        assert_eq!(rt; ran.status, row.3);
+        assert_eq!(rt; ran.out.bytes(), row.4);
+        assert_eq!(rt; ran.notes.bytes(), row.5);
+    }
+    Ok(())
+}
+
+#[test]
+fn refusals_write_nothing_but_their_note(rt: HostRuntime) -> Result<(), Fail> {
+    let usage: &[u8] =
+        b"etalis: usage: etalis MODE RULES [--late N] [--seed N] [--lines N]\n";
+    let rows: [(&[&str], &[u8], Status, &[u8]); 6] = [
+        (&["walk", "r"], AB, Status::Usage, usage),
+        (&["run"], AB, Status::Usage, usage),
+        (&["run", "-r"], AB, Status::Usage, usage),
+        (&["run", "r", "s"], AB, Status::Usage, usage),
+        (
+            &["run", "r"],
+            b"ab(X) <- a(Y) SEQ b(Y).\n",
+            Status::RulesRefused,
+            b"etalis: rules: unbuilt\n",
+        ),
+        (&["run", "s"], AB, Status::ReadFault, b"etalis: cannot read rules\n"),
+    ];
+    for row in rows {
+        let ran = run_over(rt.alloc(), row.0, row.1, b"+ 1 a(7)\n", CALM)?;
+        assert_eq!(rt; ran.status, row.2);
+        assert_eq!(rt; ran.out.bytes(), b"".as_slice());
+        assert_eq!(rt; ran.notes.bytes(), row.3);
+    }
+    Ok(())
+}
+
+#[test]
+fn failing_notes_change_no_status(rt: HostRuntime) -> Result<(), Fail> {
+    let setting = Setting {
+        notes_fail: &[1],
+        ..CALM
+    };
+    let ran = run_over(rt.alloc(), &["walk"], AB, b"", setting)?;
+    assert_eq!(rt; ran.status, Status::Usage);
+    assert_eq!(rt; ran.notes.bytes(), b"".as_slice());
+    Ok(())
+}

@@ -1,0 +1,10 @@
+//! Rules as trees: patterns, conditions, rules and the statements of a file.
+#![tactic(auto)]
+
+mod conditions;
+mod patterns;
+mod statements;
+
+pub use conditions::{Calc, Cmp, Cond};
+pub use patterns::Pattern;
+pub use statements::{Rule, RuleSet, Statement};
