@@ -1,10 +1,8 @@
 -- Pieces one after another.
-use Rattle.std.proofs.Common.{◌≡◌, ℕ, suc, ◌+◌, ◌≤◌, ◌<◌, min, Bool, true, false, cond, eqb, eqb-true, List, [], ◌∷◌, ◌++◌, Option, Some, length, take, drop, get_or, refl, sym, ap, ◌∙◌, subst, arith, append-nil, append_assoc}
-use Rattle.std.proofs.lemmas.List.{take-append-le, take_all, take_min}
-use Rattle.std.proofs.Math.Seq.{take-append-add}
+use Rattle.std.proofs.Common.{◌≡◌, ℕ, suc, ◌+◌, ◌≤◌, ◌<◌, Bool, true, false, cond, eqb, eqb-true, List, [], ◌∷◌, ◌++◌, Option, Some, length, take, get_or, refl, sym, ap, ◌∙◌, subst, arith, append-nil, append_assoc}
 use Rattle.std.specs.Io.KnownBytes.{append_known}
 use Rattle.flow_ports.specs.Flow.{Gives, GivesPart}
-use Rattle.flow_ports.proofs.FlowLemmas.{append_known-nil, append_known-append, gives_more}
+use Rattle.flow_ports.proofs.FlowLemmas.{append_known-nil, gives_more}
 use Rattle.ev_term.specs.Lines.{without_cr, ended_from, rest_from, ended_from-append, rest_from-append}
 use Rattle.etalis_cli.specs.Output.{State, after, after_line, reply_to, replies}
 use Rattle.etalis_cli.specs.StandsFor.{StandsFor}

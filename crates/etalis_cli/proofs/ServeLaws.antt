@@ -1,22 +1,22 @@
 -- What a run over the lines of a source has done, and how it ends.
-use Rattle.std.proofs.Common.{◌≡◌, ℕ, ◌+◌, ◌-◌, ◌^◌, ◌<◌, ◌≤◌, min, List, [], ◌∷◌, ◌++◌, Option, Some, None, Result, Ok, Err, length, take, drop, refl, sym, ap, ◌∙◌, subst, inr, arith, append-nil, append_assoc, length-append}
+use Rattle.std.proofs.Common.{◌≡◌, ℕ, ◌+◌, ◌-◌, ◌^◌, ◌<◌, ◌≤◌, min, List, [], ◌++◌, Option, Some, None, Result, Ok, Err, length, take, drop, refl, sym, ap, ◌∙◌, subst, inr, arith, append-nil, append_assoc, length-append}
 use Rattle.std.specs.Prelude.{OnOk, OnErr, IsErrOf}
 use Rattle.std.proofs.lemmas.List.{take-append-le, take_all, take_min, take-append-drop}
 use Rattle.std.proofs.Math.Seq.{take-append-add}
 use Rattle.std.specs.Io.KnownBytes.{append_known}
 use Rattle.flow_ports.specs.Flow.{Takes, Gives, GivesPart, IsAtEnd}
-use Rattle.flow_ports.proofs.FlowLemmas.{append_known-append, prepend_known-nil, gives_more, takes_more}
-use Rattle.ev_term.specs.Lines.{without_cr, ended, rest, ended_from, last_line, lines_of, ended_from-append}
-use Rattle.pattern_meaning.specs.Patterns.{RuleSet, rules_of_pair}
+use Rattle.flow_ports.proofs.FlowLemmas.{append_known-append, gives_more, takes_more}
+use Rattle.ev_term.specs.Lines.{ended, rest, ended_from, last_line, lines_of, ended_from-append}
+use Rattle.pattern_meaning.specs.Patterns.{RuleSet}
 use Rattle.pattern_meaning.specs.Standing.{end_text}
-use Rattle.etalis_cli.specs.Output.{State, start, after, after_line, reply_to, replies, out_text}
+use Rattle.etalis_cli.specs.Output.{State, start, after, replies, out_text}
 use Rattle.etalis_cli.specs.StandsFor.{StandsFor}
 use Rattle.etalis_cli.specs.Feeds.{Kept, Feeds, FedTo, FeedsPart}
 use Rattle.etalis_cli.specs.Outcome.{begin, Progress, Reached, tail, PartOf, Served}
 use Rattle.etalis_cli.specs.declared.session.Session.{Session}
 use Rattle.etalis_cli.specs.declared.serving.ServeFault.{ServeFault}
 use Rattle.etalis_cli.specs.declared.serving.ServeFault.TheVariants.{Read, Write, Memory, TooLong}
-use Rattle.etalis_cli.proofs.FeedLaws.{count-after, length-ended_from, replies-append, feeds_none, feeds_more, feeds_count, replies_both, second}
+use Rattle.etalis_cli.proofs.FeedLaws.{count-after, replies-append, feeds_more, feeds_count, replies_both, second}
 
 module _ (rs : RuleSet) where
   pub progress_more : (left l1 l2 got : Option (List ℕ)) (now next : Kept) (n k : ℕ) (done piece : List ℕ)
@@ -161,7 +161,7 @@ module _ (rs : RuleSet) where
   }
 
   -- the last piece was taken too
-  pub takes_part : (left l1 l2 got : Option (List ℕ)) (now : Kept) (n : ℕ) (done piece : List ℕ) → Progress rs left l1 got now n done → Takes l1 l2 piece → Takes left l2 (done ++ piece)
+  takes_part : (left l1 l2 got : Option (List ℕ)) (now : Kept) (n : ℕ) (done piece : List ℕ) → Progress rs left l1 got now n done → Takes l1 l2 piece → Takes left l2 (done ++ piece)
   takes_part left l1 l2 got now n done piece p t = takes_more left l1 l2 done piece (done ++ piece) p.takes t refl
 
   -- ---- with the session
@@ -174,3 +174,13 @@ module _ (rs : RuleSet) where
 
   pub reached_count : (left l1 got : Option (List ℕ)) (session : Session) (part : List ℕ) (sent : Option (List ℕ)) (n : ℕ) (done : List ℕ) → Reached rs left l1 got session part sent n done → session.count ≤ n
   reached_count left l1 got session part sent n done r = omega (arith, progress_count left l1 got _ n done r.progress, r.stands.same_count)
+
+  -- a first part of the last piece's replies went out
+  pub reached_part : (left l1 l2 got got' : Option (List ℕ)) (session : Session) (part : List ℕ) (sent : Option (List ℕ)) (n : ℕ) (done piece : List ℕ) → Reached rs left l1 got session part sent n done
+      → length piece ≤ 8192 → ((s : State) → StandsFor session s → FeedsPart (record { state = s; part = part; got = sent }) got' piece) → PartOf rs l2 got got' (done ++ piece)
+  reached_part left l1 l2 got got' session part sent n done piece r small more = part_feeding left l1 l2 got got' _ n done piece r.progress small (more r.reached r.stands)
+
+  -- the last piece was taken too
+  pub reached_takes : (left l1 l2 got : Option (List ℕ)) (session : Session) (part : List ℕ) (sent : Option (List ℕ)) (n : ℕ) (done piece : List ℕ) → Reached rs left l1 got session part sent n done
+      → Takes l1 l2 piece → Takes left l2 (done ++ piece)
+  reached_takes left l1 l2 got session part sent n done piece r t = takes_part left l1 l2 got _ n done piece r.progress t

@@ -1,27 +1,27 @@
 -- A session from line to line.
-use Rattle.std.proofs.Common.{◌≡◌, ℕ, ◌+◌, Bool, true, false, not, ◌&&◌, List, [], ◌∷◌, ◌++◌, Option, Some, None, refl, sym, ap, ◌∙◌, subst, append_assoc, append-nil, map, length}
+use Rattle.std.proofs.Common.{◌≡◌, ℕ, ◌+◌, Bool, true, false, not, ◌&&◌, List, [], ◌++◌, Some, None, refl, sym, ap, ◌∙◌, subst, append_assoc, append-nil, map, length}
 use Rattle.std.specs.List.{flat_map}
 use Rattle.std.specs.declared.cmp.Ordering.{Ordering}
 use Rattle.ordered_lists.specs.Canon.{Rising, Exact, has, place, Rising-canon, Rising-filter, canon_one}
 use Rattle.ordered_lists.specs.Members.{without, has-without, place_itself, rising_after_place}
 use Rattle.ev_term.specs.Happenings.{PlainEvent}
 use Rattle.ev_term.specs.EventOrder.{event_cmp, detection_cmp, exact_events, exact_detections}
-use Rattle.ev_term.specs.Presence.{Add, Judgement, Fine, Unbuilt, judged, after_judged, present, present-add}
+use Rattle.ev_term.specs.Presence.{Add, Fine, Unbuilt, judged, after_judged, present, present-add}
 use Rattle.ev_term.specs.declared.events.Detection.{Detection}
 use Rattle.pattern_meaning.specs.Patterns.{RuleSet, rules_of_pair}
 use Rattle.pattern_meaning.specs.PatternRows.{named_rows}
 use Rattle.pattern_meaning.specs.Standing.{standing, detection_of, change_texts, changes, ok_text, unbuilt_text, reply}
 use Rattle.canonical_forms.specs.EventLine.{event_said}
 use Rattle.etalis_cli.specs.Output.{State, judge_line, after_line, reply_to}
-use Rattle.etalis_cli.specs.Rises.{rises, of_rising}
+use Rattle.etalis_cli.specs.Rises.{rises, rising_of, of_rising}
 use Rattle.etalis_cli.specs.StandsFor.{StandsFor}
 use Rattle.etalis_cli.specs.declared.session.Session.{Session}
 
-pub rising_standing : (r : RuleSet) (events : List PlainEvent) → Rising detection_cmp (standing r events)
+rising_standing : (r : RuleSet) (events : List PlainEvent) → Rising detection_cmp (standing r events)
 unfolding standing
 rising_standing r events = Rising-canon exact_detections (flat_map (λ n. map (detection_of n) (named_rows r.rules events (length r.rules) n)) r.shown)
 
-pub rising_found : (r : RuleSet) (events : List PlainEvent) (ds : List Detection) → ds ≡ standing r events → Rising detection_cmp ds
+rising_found : (r : RuleSet) (events : List PlainEvent) (ds : List Detection) → ds ≡ standing r events → Rising detection_cmp ds
 rising_found r events ds e = subst (λ l. Rising detection_cmp l) (sym e) (rising_standing r events)
 
 pub rises_found : (r : RuleSet) (events : List PlainEvent) (ds : List Detection) → ds ≡ standing r events → rises detection_cmp ds ≡ true
@@ -35,18 +35,18 @@ and_not false = refl
 without_itself : {K : Type 0} {R : K → K → Ordering} (o : Exact R) (xs : List K) → Rising R xs → without R xs xs ≡ []
 without_itself {R = R} o xs a = canon_one o (without R xs xs) [] (Rising-filter o (λ x. not (has R x xs)) xs a) tt (λ q. has-without o q xs xs ∙ and_not (has R q xs))
 
-pub no_changes : (ds : List Detection) → Rising detection_cmp ds → changes ds ds ≡ []
+no_changes : (ds : List Detection) → Rising detection_cmp ds → changes ds ds ≡ []
 no_changes ds a = ap (λ l. change_texts 45 l ++ change_texts 43 l) (without_itself exact_detections ds a)
 
 -- an event that is there already changes no list
-pub placed_again : (e : PlainEvent) (xs ys : List PlainEvent) → Rising event_cmp xs → has event_cmp e xs ≡ true → ys ≡ place event_cmp e xs → ys ≡ xs
-placed_again e xs ys a h p = p ∙ place_itself exact_events e xs a h
+pub placed_again : (e : PlainEvent) (xs ys : List PlainEvent) → rises event_cmp xs ≡ true → has event_cmp e xs ≡ true → ys ≡ place event_cmp e xs → ys ≡ xs
+placed_again e xs ys a h p = p ∙ place_itself exact_events e xs (rising_of event_cmp xs a) h
 
-pub nothing_told : (out : List ℕ) (ds : List Detection) → Rising detection_cmp ds → out ≡ out ++ changes ds ds
-nothing_told out ds a = sym (ap (λ l. out ++ l) (no_changes ds a) ∙ append-nil out)
+pub nothing_told : (out : List ℕ) (ds : List Detection) → rises detection_cmp ds ≡ true → out ≡ out ++ changes ds ds
+nothing_told out ds a = sym (ap (λ l. out ++ l) (no_changes ds (rising_of detection_cmp ds a)) ∙ append-nil out)
 
-pub rising_placed : (e : PlainEvent) (xs ys : List PlainEvent) → Rising event_cmp xs → ys ≡ place event_cmp e xs → Rising event_cmp ys
-rising_placed e xs ys a p = rising_after_place exact_events e xs ys a p
+pub rises_placed : (e : PlainEvent) (xs ys : List PlainEvent) → rises event_cmp xs ≡ true → ys ≡ place event_cmp e xs → rises event_cmp ys ≡ true
+rises_placed e xs ys a p = of_rising event_cmp ys (rising_after_place exact_events e xs ys (rising_of event_cmp xs a) p)
 
 -- what stands in a session
 pub stands_now : (a : Session) (s : State) → StandsFor a s → a.standing.items ≡ standing (rules_of_pair a.rule) a.events.items

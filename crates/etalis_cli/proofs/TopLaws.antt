@@ -1,10 +1,9 @@
 -- What a run over the lines says of the output, where the source tells its bytes.
-use Rattle.std.proofs.Common.{◌≡◌, ℕ, ◌+◌, ◌-◌, ◌≤◌, List, [], ◌++◌, Option, Some, None, Result, Ok, Err, length, take, drop, refl, sym, ap, ◌∙◌, subst, ◌<◌, arith, append-nil, length-append}
+use Rattle.std.proofs.Common.{◌≡◌, ℕ, ◌+◌, ◌-◌, ◌≤◌, List, [], ◌++◌, Option, Some, None, Result, Ok, Err, length, take, drop, sym, ap, ◌∙◌, subst, ◌<◌, arith, append-nil, length-append}
 use Rattle.std.specs.Prelude.{IfSome}
 use Rattle.std.proofs.lemmas.List.{take-append-le, take_all, take-append-drop}
 use Rattle.std.specs.Io.KnownBytes.{append_known}
 use Rattle.flow_ports.specs.Flow.{Gives}
-use Rattle.flow_ports.proofs.FlowLemmas.{append_known-nil}
 use Rattle.ev_term.specs.Lines.{ended}
 use Rattle.pattern_meaning.specs.Patterns.{RuleSet, rules_of_pair}
 use Rattle.pattern_meaning.specs.declared.rules.PairRule.{PairRule}

@@ -3,5 +3,4 @@ pub mod Rises
 pub mod StandsFor
 pub mod Feeds
 pub mod Outcome
-
 pub mod Run

@@ -1,5 +1,5 @@
 -- What is written for an input: the state before the first line, the state after a line, the reply to a line, and the end.
-use Rattle.std.specs.Prelude.{ℕ, ◌≡◌, ◌+◌, List, [], ◌∷◌, ◌++◌, length}
+use Rattle.std.specs.Prelude.{ℕ, ◌+◌, List, [], ◌∷◌, ◌++◌, length}
 use Rattle.ev_term.specs.Lines.{lines_of}
 use Rattle.ev_term.specs.Presence.{Input, Judgement, judged, after_judged}
 use Rattle.pattern_meaning.specs.Patterns.{RuleSet}

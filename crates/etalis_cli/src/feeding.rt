@@ -1,5 +1,5 @@
 // Pieces of the input to lines, and lines to replies.
-ghost use Rattle.std.specs.Prelude.{◌≡◌, ◌+◌, ◌^◌, ◌<◌, ◌≤◌, ◌++◌, ℕ, [], Some, length, get_or, take, MatchOption, OnOk, OnErr, IsErrOf};
+ghost use Rattle.std.specs.Prelude.{◌≡◌, ◌+◌, ◌^◌, ◌<◌, ◌≤◌, ◌++◌, ℕ, [], Some, length, get_or, MatchOption, OnOk, OnErr, IsErrOf};
 ghost use Rattle.ev_term.specs.Lines.{without_cr};
 ghost use Rattle.flow_ports.specs.Flow.{Rose};
 ghost use Rattle.etalis_cli.specs.Output.{State, after_line, reply_to};
@@ -34,13 +34,19 @@ pub fn without_cr(line: &[u8]) -> &[u8]
 fn line_end(bytes: &[u8]) -> Option<usize>
     ensures { MatchOption result
         ((k : ℕ) → k < length bytes.now → get_or bytes.now k 0 ≡ 10 → ⊥)
-        (λ n. (n < length bytes.now) × (get_or bytes.now n 0 ≡ 10) × ((k : ℕ) → k < n → get_or bytes.now k 0 ≡ 10 → ⊥)) }
+        (λ n. (n < length bytes.now) × (get_or bytes.now n 0 ≡ 10)
+        × ((k : ℕ) → k < n → get_or bytes.now k 0 ≡ 10 → ⊥)) }
 {
     bytes.iter().position(|byte| *byte == b'\n')
 }
 
 // Takes a line that a line feed ends, whose first part was kept, and appends its reply.
-fn take_line(session: &mut Session, part: &mut Vec<u8>, line: &[u8], text: &mut Vec<u8>) -> Result<(), AllocError>
+fn take_line(
+    session: &mut Session,
+    part: &mut Vec<u8>,
+    line: &[u8],
+    text: &mut Vec<u8>,
+) -> Result<(), AllocError>
     requires { session.old.count < 2 ^ 63 }
     ensures text { (s : State) → StandsFor session.old s
         → OnOk result (text.new.items ≡ text.old.items ++ reply_to s (without_cr (part.old.items ++ line.now))) }
@@ -59,7 +65,12 @@ fn take_line(session: &mut Session, part: &mut Vec<u8>, line: &[u8], text: &mut 
 }
 
 // Takes a piece of the input, and appends the replies to the lines that it ends.
-fn take_piece(session: &mut Session, part: &mut Vec<u8>, piece: &[u8], text: &mut Vec<u8>) -> Result<(), AllocError>
+fn take_piece(
+    session: &mut Session,
+    part: &mut Vec<u8>,
+    piece: &[u8],
+    text: &mut Vec<u8>,
+) -> Result<(), AllocError>
     requires { session.old.count + length piece.now < 2 ^ 63 }
     ensures fed { (s : State) → StandsFor session.old s → OnOk result (FedTo
         record { state = s; part = part.old.items; got = Some text.old.items }

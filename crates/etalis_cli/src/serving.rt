@@ -1,5 +1,5 @@
 // The lines of a source, to their replies.
-ghost use Rattle.std.specs.Prelude.{◌≡◌, ◌+◌, ◌^◌, ◌<◌, ◌≤◌, ℕ, List, IfOk, OnOk, OnErr, IsErrOf};
+ghost use Rattle.std.specs.Prelude.{◌≡◌, ◌^◌, ◌<◌, ◌≤◌, ℕ, List, OnOk, OnErr, IsErrOf};
 ghost use Rattle.flow_ports.specs.Flow.{Rose, Gives, GivesPart};
 ghost use Rattle.pattern_meaning.specs.Patterns.{rules_of_pair};
 ghost use Rattle.etalis_cli.specs.Output.{State, start};
@@ -43,6 +43,7 @@ fn last_text(session: &mut Session, part: &[u8], text: &mut Vec<u8>) -> Result<(
     end_text(session.count(), text)
 }
 
+// Writes what stands behind the replies to all lines that a line feed ends.
 fn finish<O: Sink>(
     session: &mut Session,
     part: &[u8],
@@ -50,8 +51,10 @@ fn finish<O: Sink>(
     out: &mut O,
 ) -> Result<(), ServeFault>
     requires { session.old.count < 2 ^ 62 }
-    ensures ok { (s : State) → StandsFor session.old s → OnOk result (Gives (O.got out.old) (O.got out.new) (tail s part.now)) }
-    ensures err { (s : State) → StandsFor session.old s → OnErr result (GivesPart (O.got out.old) (O.got out.new) (tail s part.now)) }
+    ensures ok { (s : State) → StandsFor session.old s
+        → OnOk result (Gives (O.got out.old) (O.got out.new) (tail s part.now)) }
+    ensures err { (s : State) → StandsFor session.old s
+        → OnErr result (GivesPart (O.got out.old) (O.got out.new) (tail s part.now)) }
     ensures write { IsErrOf result ServeFault.Write → Rose (O.faults out.old) (O.faults out.new) }
     ensures memory { IsErrOf result ServeFault.Memory → O.faults out.new ≡ O.faults out.old }
     ensures count { OnOk result (O.faults out.new ≡ O.faults out.old) }
@@ -68,7 +71,8 @@ fn finish<O: Sink>(
     }
 }
 
-/// Reads the source to its end, and writes the replies to the lines of each piece as soon as it is there.
+/// Reads the source to its end, and writes the replies to the lines of each piece as soon as it is
+/// there, from a session that has taken no line.
 pub fn serve<I: Source, O: Sink>(
     alloc: Global,
     session: &mut Session,
@@ -76,7 +80,8 @@ pub fn serve<I: Source, O: Sink>(
     out: &mut O,
 ) -> Result<(), ServeFault>
     requires { StandsFor session.old (start (rules_of_pair session.old.rule)) }
-    ensures served { (done : List ℕ) × Served (rules_of_pair session.old.rule) result (I.left input.old) (I.left input.new)
+    ensures served { (done : List ℕ)
+        × Served (rules_of_pair session.old.rule) result (I.left input.old) (I.left input.new)
         (O.got out.old) (O.got out.new) (Rose (O.faults out.old) (O.faults out.new)) done }
     ensures read { IsErrOf result ServeFault.Read → Rose (I.faults input.old) (I.faults input.new) }
     ensures write { IsErrOf result ServeFault.Write → Rose (O.faults out.old) (O.faults out.new) }

@@ -50,11 +50,14 @@ impl Session {
         self.count
     }
 
-    /// Takes a line, and appends its reply.
+    /// Takes a line, and appends its reply. An `Err` may have taken a part of it, so no more lines
+    /// should follow one.
     pub fn answer(&mut self, line: &[u8], out: &mut Vec<u8>) -> Result<(), AllocError>
         requires { self.old.count < 2 ^ 63 }
-        ensures reply { (s : State) → StandsFor self.old s → OnOk result (out.new.items ≡ out.old.items ++ reply_to s line.now) }
-        ensures after { (s : State) → StandsFor self.old s → OnOk result (StandsFor self.new (after_line s line.now)) }
+        ensures reply { (s : State) → StandsFor self.old s
+            → OnOk result (out.new.items ≡ out.old.items ++ reply_to s line.now) }
+        ensures after { (s : State) → StandsFor self.old s
+            → OnOk result (StandsFor self.new (after_line s line.now)) }
         ensures count { OnOk result (self.new.count ≡ self.old.count + 1) }
     {
         let number = self.count + 1;
@@ -66,7 +69,14 @@ impl Session {
                 return Ok(());
             }
         };
-        take_event(self.alloc, &self.rule, &mut self.events, &mut self.standing, event, out)?;
+        take_event(
+            self.alloc,
+            &self.rule,
+            &mut self.events,
+            &mut self.standing,
+            event,
+            out,
+        )?;
         ok_text(number, out)?;
         self.count = number;
         Ok(())

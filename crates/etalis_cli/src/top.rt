@@ -1,5 +1,5 @@
 // The top call.
-ghost use Rattle.std.specs.Prelude.{◌≡◌, ◌+◌, ◌-◌, ◌^◌, ◌<◌, ◌≤◌, ◌↔◌, ◌⊎◌, ◌++◌, ℕ, List, Option, None, Some, true, false, IsSome, IfSome, IfOk, OnOk, OnErr, IfErr, IsErrOf, MatchOption, MatchResult, length, take};
+ghost use Rattle.std.specs.Prelude.{◌≡◌, ◌^◌, ◌≤◌, ◌↔◌, ◌⊎◌, ℕ, List, Some, None, true, IsSome, IfSome, IfOk, OnOk, IfErr, IsErrOf, MatchOption, length};
 ghost use Rattle.flow_ports.specs.Flow.{Rose, Gives, GivesPart, IsAtEnd};
 ghost use Rattle.ev_term.specs.Lines.{ended};
 ghost use Rattle.pattern_meaning.specs.Patterns.{rules_of_pair};
@@ -33,6 +33,7 @@ fn file_name(words: &[String]) -> Option<&str>
     }
 }
 
+// Whether a word can name a file.
 fn is_name(name: &[u8]) -> bool
     ensures { result ≡ is_name name.now }
 {
@@ -65,6 +66,7 @@ fn read_rules<S: Shelf>(alloc: Global, shelf: &mut S, name: &str) -> Result<Pair
     }
 }
 
+// The cause that a run over the lines ends with.
 fn cause_of(outcome: Result<(), ServeFault>) -> Cause
     ensures { result ≡ cause_of outcome }
 {
@@ -98,16 +100,21 @@ fn serve_rule<I: Source, O: Sink>(
 
 // What a run does once it has its rule.
 fn run_rule<I: Source, O: Sink>(alloc: Global, rule: PairRule, input: &mut I, out: &mut O) -> Cause
-    ensures done { result ≡ Cause.Done → IfSome (I.left input.old) (λ bytes. Gives (O.got out.old) (O.got out.new) (out_text (rules_of_pair rule) bytes)) }
+    ensures done { result ≡ Cause.Done → IfSome (I.left input.old) (λ bytes.
+        Gives (O.got out.old) (O.got out.new) (out_text (rules_of_pair rule) bytes)) }
     ensures read_to_end { result ≡ Cause.Done → IsAtEnd (I.left input.new) }
     ensures write { result ≡ Cause.WriteFault → Rose (O.faults out.old) (O.faults out.new) }
     ensures read { result ≡ Cause.InputUnread → Rose (I.faults input.old) (I.faults input.new) }
-    ensures too_long { result ≡ Cause.TooLong → OnTaken (I.left input.old) (I.left input.new) (λ taken. 2 ^ 60 ≤ length taken) }
-    ensures no_longer { OnTaken (I.left input.old) (I.left input.new) (λ taken. 2 ^ 60 ≤ length taken → (result ≡ Cause.TooLong) ⊎ (result ≡ Cause.Memory)) }
+    ensures too_long { result ≡ Cause.TooLong
+        → OnTaken (I.left input.old) (I.left input.new) (λ taken. 2 ^ 60 ≤ length taken) }
+    ensures no_longer { OnTaken (I.left input.old) (I.left input.new) (λ taken. 2 ^ 60 ≤ length taken
+        → (result ≡ Cause.TooLong) ⊎ (result ≡ Cause.Memory)) }
     ensures part { PartFor (rules_of_pair rule) (I.left input.old) (I.left input.new) (O.got out.old) (O.got out.new) }
-    ensures replied { result ≡ Cause.InputUnread → OnTaken (I.left input.old) (I.left input.new) (λ taken. Gives (O.got out.old) (O.got out.new) (replies (start (rules_of_pair rule)) (ended taken))) }
+    ensures replied { result ≡ Cause.InputUnread → OnTaken (I.left input.old) (I.left input.new) (λ taken.
+        Gives (O.got out.old) (O.got out.new) (replies (start (rules_of_pair rule)) (ended taken))) }
     ensures long_replied { result ≡ Cause.TooLong → Rose (O.faults out.old) (O.faults out.new)
-        ⊎ OnTaken (I.left input.old) (I.left input.new) (λ taken. Gives (O.got out.old) (O.got out.new) (replies (start (rules_of_pair rule)) (ended taken))) }
+        ⊎ OnTaken (I.left input.old) (I.left input.new) (λ taken.
+        Gives (O.got out.old) (O.got out.new) (replies (start (rules_of_pair rule)) (ended taken))) }
     ensures causes { IsServeCause result }
 {
     cause_of(serve_rule(alloc, rule, input, out))
@@ -123,29 +130,40 @@ fn work<S: Shelf, I: Source, O: Sink>(
 ) -> Cause
     requires { MayAsk (form words.now) (S.serves shelf.old) }
 
-    ensures done { status_of result ≡ Status.Done → OnRules (file_of (form words.now) (S.holds shelf.old)) (λ rules. IfSome (I.left input.old) (λ bytes. Gives (O.got out.old) (O.got out.new) (out_text rules bytes))) }
+    ensures done { status_of result ≡ Status.Done → OnRules (file_of (form words.now) (S.holds shelf.old)) (λ rules.
+        IfSome (I.left input.old) (λ bytes. Gives (O.got out.old) (O.got out.new) (out_text rules bytes))) }
     ensures read_to_end { status_of result ≡ Status.Done → IsAtEnd (I.left input.new) }
-    ensures accepted { WasServed (status_of result) → IfSome (file_of (form words.now) (S.holds shelf.old)) (λ file. IsSome (rule_held file)) }
+    ensures accepted { WasServed (status_of result)
+        → IfSome (file_of (form words.now) (S.holds shelf.old)) (λ file. IsSome (rule_held file)) }
 
     ensures usage { (status_of result ≡ Status.Usage) ↔ (form words.now ≡ None) }
-    ensures refused { status_of result ≡ Status.RulesRefused → IfSome (file_of (form words.now) (S.holds shelf.old)) (λ file. rule_held file ≡ None) }
+    ensures refused { status_of result ≡ Status.RulesRefused
+        → IfSome (file_of (form words.now) (S.holds shelf.old)) (λ file. rule_held file ≡ None) }
     ensures refuses { IfSome (file_of (form words.now) (S.holds shelf.old)) (λ file. rule_held file ≡ None
-        → (status_of result ≡ Status.RulesRefused) ⊎ ((status_of result ≡ Status.Memory) ⊎ ((status_of result ≡ Status.ReadFault) × Rose (S.faults shelf.old) (S.faults shelf.new)))) }
+        → (status_of result ≡ Status.RulesRefused) ⊎ ((status_of result ≡ Status.Memory)
+        ⊎ ((status_of result ≡ Status.ReadFault) × Rose (S.faults shelf.old) (S.faults shelf.new)))) }
     ensures write { status_of result ≡ Status.WriteFault → Rose (O.faults out.old) (O.faults out.new) }
-    ensures too_long { status_of result ≡ Status.TooLong → OnTaken (I.left input.old) (I.left input.new) (λ taken. 2 ^ 60 ≤ length taken) }
-    ensures no_longer { OnTaken (I.left input.old) (I.left input.new) (λ taken. 2 ^ 60 ≤ length taken → (status_of result ≡ Status.TooLong) ⊎ (status_of result ≡ Status.Memory)) }
+    ensures too_long { status_of result ≡ Status.TooLong
+        → OnTaken (I.left input.old) (I.left input.new) (λ taken. 2 ^ 60 ≤ length taken) }
+    ensures no_longer { OnTaken (I.left input.old) (I.left input.new) (λ taken. 2 ^ 60 ≤ length taken
+        → (status_of result ≡ Status.TooLong) ⊎ (status_of result ≡ Status.Memory)) }
 
     ensures no_form { form words.now ≡ None → O.got out.new ≡ O.got out.old }
-    ensures unaccepted { IfSome (file_of (form words.now) (S.holds shelf.old)) (λ file. rule_held file ≡ None → O.got out.new ≡ O.got out.old) }
-    ensures rules_unread { status_of result ≡ Status.ReadFault → (Rose (S.faults shelf.old) (S.faults shelf.new) × (O.got out.new ≡ O.got out.old) × (I.left input.new ≡ I.left input.old))
+    ensures unaccepted { IfSome (file_of (form words.now) (S.holds shelf.old)) (λ file.
+        rule_held file ≡ None → O.got out.new ≡ O.got out.old) }
+    ensures rules_unread { status_of result ≡ Status.ReadFault
+        → (Rose (S.faults shelf.old) (S.faults shelf.new) × (O.got out.new ≡ O.got out.old) × (I.left input.new ≡ I.left input.old))
         ⊎ (Rose (I.faults input.old) (I.faults input.new) × (S.faults shelf.new ≡ S.faults shelf.old)
         × IfSome (file_of (form words.now) (S.holds shelf.old)) (λ file. IsSome (rule_held file))) }
-    ensures part { OnRules (file_of (form words.now) (S.holds shelf.old)) (λ rules. PartFor rules (I.left input.old) (I.left input.new) (O.got out.old) (O.got out.new)) }
+    ensures part { OnRules (file_of (form words.now) (S.holds shelf.old)) (λ rules.
+        PartFor rules (I.left input.old) (I.left input.new) (O.got out.old) (O.got out.new)) }
     ensures replied { status_of result ≡ Status.ReadFault → OnRules (file_of (form words.now) (S.holds shelf.old)) (λ rules.
-        OnTaken (I.left input.old) (I.left input.new) (λ taken. Gives (O.got out.old) (O.got out.new) (replies (start rules) (ended taken)))) }
+        OnTaken (I.left input.old) (I.left input.new) (λ taken.
+        Gives (O.got out.old) (O.got out.new) (replies (start rules) (ended taken)))) }
     ensures long_replied { status_of result ≡ Status.TooLong → Rose (O.faults out.old) (O.faults out.new)
         ⊎ OnRules (file_of (form words.now) (S.holds shelf.old)) (λ rules.
-        OnTaken (I.left input.old) (I.left input.new) (λ taken. Gives (O.got out.old) (O.got out.new) (replies (start rules) (ended taken)))) }
+        OnTaken (I.left input.old) (I.left input.new) (λ taken.
+        Gives (O.got out.old) (O.got out.new) (replies (start rules) (ended taken)))) }
 
     ensures rules_count { result ≡ Cause.RulesUnread → Rose (S.faults shelf.old) (S.faults shelf.new) }
     ensures input_count { result ≡ Cause.InputUnread → Rose (I.faults input.old) (I.faults input.new) }
@@ -161,8 +179,8 @@ fn work<S: Shelf, I: Source, O: Sink>(
     run_rule(alloc, rule, input, out)
 }
 
-/// Reads the rule file and the lines, and writes the replies. A note says why the run ended, where it wasn't done; a
-/// failure to write it is dropped.
+/// Reads the rule file and the lines, and writes the replies. A note says why the run ended, where
+/// it wasn't done; a failure to write the note is dropped.
 pub fn run<S: Shelf, I: Source, O: Sink, N: Sink>(
     alloc: Global,
     words: &[String],
@@ -173,31 +191,43 @@ pub fn run<S: Shelf, I: Source, O: Sink, N: Sink>(
 ) -> Status
     requires { MayAsk (form words.now) (S.serves shelf.old) }
 
-    ensures done { result ≡ Status.Done → OnRules (file_of (form words.now) (S.holds shelf.old)) (λ rules. IfSome (I.left input.old) (λ bytes. Gives (O.got out.old) (O.got out.new) (out_text rules bytes))) }
+    ensures done { result ≡ Status.Done → OnRules (file_of (form words.now) (S.holds shelf.old)) (λ rules.
+        IfSome (I.left input.old) (λ bytes. Gives (O.got out.old) (O.got out.new) (out_text rules bytes))) }
     ensures read_to_end { result ≡ Status.Done → IsAtEnd (I.left input.new) }
-    ensures accepted { WasServed result → IfSome (file_of (form words.now) (S.holds shelf.old)) (λ file. IsSome (rule_held file)) }
+    ensures accepted { WasServed result
+        → IfSome (file_of (form words.now) (S.holds shelf.old)) (λ file. IsSome (rule_held file)) }
 
     ensures usage { (result ≡ Status.Usage) ↔ (form words.now ≡ None) }
-    ensures refused { result ≡ Status.RulesRefused → IfSome (file_of (form words.now) (S.holds shelf.old)) (λ file. rule_held file ≡ None) }
+    ensures refused { result ≡ Status.RulesRefused
+        → IfSome (file_of (form words.now) (S.holds shelf.old)) (λ file. rule_held file ≡ None) }
     ensures refuses { IfSome (file_of (form words.now) (S.holds shelf.old)) (λ file. rule_held file ≡ None
-        → (result ≡ Status.RulesRefused) ⊎ ((result ≡ Status.Memory) ⊎ ((result ≡ Status.ReadFault) × Rose (S.faults shelf.old) (S.faults shelf.new)))) }
+        → (result ≡ Status.RulesRefused) ⊎ ((result ≡ Status.Memory)
+        ⊎ ((result ≡ Status.ReadFault) × Rose (S.faults shelf.old) (S.faults shelf.new)))) }
     ensures write { result ≡ Status.WriteFault → Rose (O.faults out.old) (O.faults out.new) }
-    ensures too_long { result ≡ Status.TooLong → OnTaken (I.left input.old) (I.left input.new) (λ taken. 2 ^ 60 ≤ length taken) }
-    ensures no_longer { OnTaken (I.left input.old) (I.left input.new) (λ taken. 2 ^ 60 ≤ length taken → (result ≡ Status.TooLong) ⊎ (result ≡ Status.Memory)) }
+    ensures too_long { result ≡ Status.TooLong
+        → OnTaken (I.left input.old) (I.left input.new) (λ taken. 2 ^ 60 ≤ length taken) }
+    ensures no_longer { OnTaken (I.left input.old) (I.left input.new) (λ taken. 2 ^ 60 ≤ length taken
+        → (result ≡ Status.TooLong) ⊎ (result ≡ Status.Memory)) }
 
     ensures no_form { form words.now ≡ None → O.got out.new ≡ O.got out.old }
-    ensures unaccepted { IfSome (file_of (form words.now) (S.holds shelf.old)) (λ file. rule_held file ≡ None → O.got out.new ≡ O.got out.old) }
-    ensures rules_unread { result ≡ Status.ReadFault → (Rose (S.faults shelf.old) (S.faults shelf.new) × (O.got out.new ≡ O.got out.old) × (I.left input.new ≡ I.left input.old))
+    ensures unaccepted { IfSome (file_of (form words.now) (S.holds shelf.old)) (λ file.
+        rule_held file ≡ None → O.got out.new ≡ O.got out.old) }
+    ensures rules_unread { result ≡ Status.ReadFault
+        → (Rose (S.faults shelf.old) (S.faults shelf.new) × (O.got out.new ≡ O.got out.old) × (I.left input.new ≡ I.left input.old))
         ⊎ (Rose (I.faults input.old) (I.faults input.new) × (S.faults shelf.new ≡ S.faults shelf.old)
         × IfSome (file_of (form words.now) (S.holds shelf.old)) (λ file. IsSome (rule_held file))) }
-    ensures part { OnRules (file_of (form words.now) (S.holds shelf.old)) (λ rules. PartFor rules (I.left input.old) (I.left input.new) (O.got out.old) (O.got out.new)) }
+    ensures part { OnRules (file_of (form words.now) (S.holds shelf.old)) (λ rules.
+        PartFor rules (I.left input.old) (I.left input.new) (O.got out.old) (O.got out.new)) }
     ensures replied { result ≡ Status.ReadFault → OnRules (file_of (form words.now) (S.holds shelf.old)) (λ rules.
-        OnTaken (I.left input.old) (I.left input.new) (λ taken. Gives (O.got out.old) (O.got out.new) (replies (start rules) (ended taken)))) }
+        OnTaken (I.left input.old) (I.left input.new) (λ taken.
+        Gives (O.got out.old) (O.got out.new) (replies (start rules) (ended taken)))) }
     ensures long_replied { result ≡ Status.TooLong → Rose (O.faults out.old) (O.faults out.new)
         ⊎ OnRules (file_of (form words.now) (S.holds shelf.old)) (λ rules.
-        OnTaken (I.left input.old) (I.left input.new) (λ taken. Gives (O.got out.old) (O.got out.new) (replies (start rules) (ended taken)))) }
+        OnTaken (I.left input.old) (I.left input.new) (λ taken.
+        Gives (O.got out.old) (O.got out.new) (replies (start rules) (ended taken)))) }
 
-    ensures note { (text : List ℕ) × IsNoteOf result text (Rose (S.faults shelf.old) (S.faults shelf.new)) (Rose (I.faults input.old) (I.faults input.new))
+    ensures note { (text : List ℕ)
+        × IsNoteOf result text (Rose (S.faults shelf.old) (S.faults shelf.new)) (Rose (I.faults input.old) (I.faults input.new))
         × (Gives (N.got notes.old) (N.got notes.new) text
         ⊎ (Rose (N.faults notes.old) (N.faults notes.new) × GivesPart (N.got notes.old) (N.got notes.new) text)) }
 {
@@ -206,6 +236,7 @@ pub fn run<S: Shelf, I: Source, O: Sink, N: Sink>(
     status_of(cause)
 }
 
+// The status that a cause is told by.
 fn status_of(cause: Cause) -> Status
     ensures { result ≡ status_of cause }
 {
@@ -220,6 +251,7 @@ fn status_of(cause: Cause) -> Status
     }
 }
 
+// What goes to the notes.
 fn note_text(cause: Cause) -> &'static [u8]
     ensures { result.now ≡ note_of cause }
 {

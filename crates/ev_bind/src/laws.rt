@@ -1,5 +1,5 @@
 // What the definitions that contracts cite come to, in other words.
-ghost use Rattle.std.specs.Prelude.{◌≡◌, ◌↔◌, ◌⊎◌, ◌∷◌, [], ℕ, Some, IsSome};
+ghost use Rattle.std.specs.Prelude.{◌≡◌, ◌↔◌, ◌⊎◌, ◌∷◌, [], ℕ, IsSome};
 ghost use Rattle.ev_term.specs.declared.atoms.Atom.{Atom};
 ghost use Rattle.ev_term.specs.declared.atoms.PatAtom.{PatAtom};
 ghost use Rattle.ev_term.specs.declared.terms.Term.{Term};

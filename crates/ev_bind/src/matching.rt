@@ -1,5 +1,5 @@
 // The matching of atoms.
-ghost use Rattle.std.specs.Prelude.{◌≡◌, [], Some, None, map, option_and_then, OnOk, IfOk, if◌then◌else◌};
+ghost use Rattle.std.specs.Prelude.{◌≡◌, [], map, option_and_then, OnOk, IfOk, if◌then◌else◌};
 ghost use Rattle.ev_term.specs.declared.terms.Term.{out-Term};
 ghost use Rattle.ev_bind.specs.Bindings.{IsBinding, join};
 ghost use Rattle.ev_bind.specs.Matching.{pairs_of, pairs_of_all, number_pairs, symbol_pairs, text_pairs, match_of};

@@ -1,5 +1,5 @@
 // Pairs of a slot and its value, in the order of slots.
-ghost use Rattle.std.specs.Prelude.{◌≡◌, ◌≤◌, length, ◌∷◌, ◌++◌, [], Some, None, true, nat_lt, OnOk, OnErr, IfOk, IsTrue, if◌then◌else◌};
+ghost use Rattle.std.specs.Prelude.{◌≡◌, ◌≤◌, ◌∷◌, [], length, nat_lt, OnOk, IfOk, if◌then◌else◌};
 ghost use Rattle.std.specs.Option.{option_copied};
 ghost use Rattle.std.specs.Ordering.{is_eq};
 ghost use Rattle.std.specs.List.{prefix_len, list_all};

@@ -1,9 +1,8 @@
-use Rattle.std.proofs.Common.{arith, ◌≡◌, ◌+◌, ◌-◌, ◌≤◌, ◌++◌, ◌∷◌, [], Some, Option, Result, Ok, Err, length, take, drop, subst, ap}
+use Rattle.std.proofs.Common.{arith, ◌≡◌, ◌+◌, ◌-◌, ◌++◌, ◌∷◌, [], Some, Result, Ok, Err, length, take, drop, ap}
 use Rattle.std.specs.Prelude.{OnOk, if◌then◌else◌}
 use Rattle.std.proofs.lemmas.List.{length-drop, take_rest}
 use Rattle.std.proofs.lemmas.Result.{on_ok_weaker}
 use Rattle.std.specs.Result.{is_ok}
-use Rattle.etalis_cli.specs.Feeds.{FedTo}
 use Rattle.etalis_cli.proofs.FeedLaws.{fed_more, fed_line, fed_rest}
 use Rattle.etalis_cli.proofs.LineLaws.{line_in_piece, plain_in_piece, rest_of_piece}
 use Rattle.etalis_cli.proofs.feeding.take_piece.Goals as goal

@@ -1,4 +1,4 @@
-use Rattle.std.proofs.Common.{◌≡◌, ◌+◌, ◌-◌, ◌≤◌, Some, length, take}
+use Rattle.std.proofs.Common.{◌+◌, ◌-◌, ◌≤◌, Some, length, take}
 use Rattle.etalis_cli.specs.Output.{State}
 use Rattle.etalis_cli.specs.StandsFor.{StandsFor}
 use Rattle.etalis_cli.specs.Feeds.{FedTo}

@@ -1,6 +1,6 @@
 use Rattle.std.proofs.Common.{rules, arith, ◌≤◌, ◌<◌, ◌^◌, ◌++◌, take, length, inl}
 use Rattle.std.proofs.lemmas.List.{length-take, length-take-le, length-append}
-use Rattle.etalis_cli.proofs.ServeLaws.{reached_more, reached_count, served_end, served_long, part_feeding, takes_part}
+use Rattle.etalis_cli.proofs.ServeLaws.{reached_more, reached_count, served_end, served_long, reached_part, reached_takes}
 use Rattle.etalis_cli.proofs.serving.serve.Goals as goal
 
 pub finish-requires : goal.finish-requires
@@ -37,12 +37,11 @@ pub returns-in-Err-Memory-clause-served : goal.returns-in-Err-Memory-clause-serv
 returns-in-Err-Memory-clause-served g c =
     let (done, r) = c.loop-taken.invariant.progress in
     let piece = take c.in-Ok.n c.read.new.buf in
-    let small : length piece ≤ 8192 = omega (arith, length-take c.in-Ok.n c.read.new.buf) in
-    (
+    let small : length piece ≤ 8192 = omega (arith, length-take c.in-Ok.n c.read.new.buf) in (
       done ++ piece,
       record {
-        takes = takes_part _ _ _ _ _ _ _ _ _ r.progress c.in-Ok.ensures.bytes;
-        ends = part_feeding _ _ _ _ _ _ _ _ _ piece r.progress small (c.in-Err-Memory.ensures.err r.reached r.stands);
+        takes = reached_takes _ _ _ _ _ c.loop-taken.session c.loop-taken.part.items _ _ _ _ r c.in-Ok.ensures.bytes;
+        ends = reached_part _ _ _ (g.I.Source.left c.read.new.self) _ _ c.loop-taken.session c.loop-taken.part.items _ _ _ piece r small c.in-Err-Memory.ensures.err;
       },
     )
 
@@ -54,12 +53,11 @@ returns-then-taken-lt-LIMIT-clause-served g c =
     let within : n ≤ length c.read.new.buf = search rules in
     let len = length-take-le n c.read.new.buf within in
     let small : length piece ≤ 8192 = omega (arith, length-take n c.read.new.buf) in
-    let low : length (done ++ piece) < 2 ^ 60 = omega (arith, length-append done piece, len, r.progress.count) in
-    (
+    let low : length (done ++ piece) < 2 ^ 60 = omega (arith, length-append done piece, len, r.progress.count) in (
       done ++ piece,
       record {
-        takes = takes_part _ _ _ _ _ _ _ _ _ r.progress c.in-Ok.ensures.bytes;
-        ends = (low, part_feeding _ _ _ _ _ _ _ _ _ piece r.progress small (c.in-Err-Write.ensures.err r.reached r.stands));
+        takes = reached_takes _ _ _ _ _ c.loop-taken.session c.loop-taken.part.items _ _ _ _ r c.in-Ok.ensures.bytes;
+        ends = (low, reached_part _ _ _ (g.I.Source.left c.read.new.self) _ _ c.loop-taken.session c.loop-taken.part.items _ _ _ piece r small c.in-Err-Write.ensures.err);
       },
     )
 
@@ -71,12 +69,11 @@ returns-in-Err-Write-clause-served g c =
     let within : n ≤ length c.read.new.buf = search rules in
     let len = length-take-le n c.read.new.buf within in
     let small : length piece ≤ 8192 = omega (arith, length-take n c.read.new.buf) in
-    let high : 2 ^ 60 ≤ length (done ++ piece) = omega (arith, length-append done piece, len, r.progress.count) in
-    (
+    let high : 2 ^ 60 ≤ length (done ++ piece) = omega (arith, length-append done piece, len, r.progress.count) in (
       done ++ piece,
       record {
-        takes = takes_part _ _ _ _ _ _ _ _ _ r.progress c.in-Ok.ensures.bytes;
-        ends = (high, part_feeding _ _ _ _ _ _ _ _ _ piece r.progress small (c.in-Err-Write.ensures.err r.reached r.stands), inl (search rules));
+        takes = reached_takes _ _ _ _ _ c.loop-taken.session c.loop-taken.part.items _ _ _ _ r c.in-Ok.ensures.bytes;
+        ends = (high, reached_part _ _ _ (g.I.Source.left c.read.new.self) _ _ c.loop-taken.session c.loop-taken.part.items _ _ _ piece r small c.in-Err-Write.ensures.err, inl (search rules));
       },
     )
 

@@ -1,35 +1,9 @@
 use Rattle.std.proofs.Common.{refl, ◌++◌, sym, ap, ◌∙◌}
-use Rattle.ev_term.specs.EventOrder.{event_cmp, detection_cmp, exact_events}
-use Rattle.etalis_cli.specs.Rises.{rising_of, of_rising}
 use Rattle.etalis_cli.proofs.SessionLaws.{stands_added, out_added, stands_now, reply_unbuilt}
 use Rattle.etalis_cli.proofs.session.Session.answer.Goals as goal
 
 pub returns-in-None-clause-reply : goal.returns-in-None-clause-reply
 returns-in-None-clause-reply c = λ s p. c.in_ok-unbuilt_text-in-None.ensures ∙ ap (λ t. c.args.out.now.items ++ t) (reply_unbuilt c.args.self.now s c.args.line.now (sym c.in_ok-event.ensures ∙ c.in-None.is) p)
-
-pub take_event-requires-clause-events_rise : goal.take_event-requires-clause-events_rise
-take_event-requires-clause-events_rise c = rising_of event_cmp _ c.args.self.now.events_rise
-
-pub take_event-requires-clause-detections_rise : goal.take_event-requires-clause-detections_rise
-take_event-requires-clause-detections_rise c = rising_of detection_cmp _ c.args.self.now.standing_rises
-
-pub invariant_of-self-in-Break-branch-4 : goal.invariant_of-self-in-Break-branch-4
-invariant_of-self-in-Break-branch-4 c = record {
-  events_rise = of_rising event_cmp _ c.take_event.ensures.events_still_rise;
-  standing_rises = of_rising detection_cmp _ c.take_event.ensures.detections_still_rise;
-}
-
-pub invariant_of-self-in-Break-branch-5 : goal.invariant_of-self-in-Break-branch-5
-invariant_of-self-in-Break-branch-5 c = record {
-  events_rise = of_rising event_cmp _ c.take_event.ensures.events_still_rise;
-  standing_rises = of_rising detection_cmp _ c.take_event.ensures.detections_still_rise;
-}
-
-pub invariant_of-self-2 : goal.invariant_of-self-2
-invariant_of-self-2 c = record {
-  events_rise = of_rising event_cmp _ c.take_event.ensures.events_still_rise;
-  standing_rises = of_rising detection_cmp _ c.take_event.ensures.detections_still_rise;
-}
 
 pub returns-clause-reply : goal.returns-clause-reply
 returns-clause-reply c = λ s p. out_added c.args.self.now s c.args.line.now c.in-Some.event c.take_event.new.events.items c.take_event.new.detections.items

@@ -1,0 +1,9 @@
+pub mod Runs
+pub mod Classes
+pub mod WordLaws
+pub mod NumberLaws
+pub mod TextLaws
+pub mod SignLaws
+pub mod PlaceLaws
+pub mod KindLaws
+pub mod EdgeLaws

@@ -1,0 +1,4 @@
+pub mod Sorts
+pub mod Spelling
+pub mod Places
+pub mod Reading

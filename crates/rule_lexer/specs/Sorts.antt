@@ -1,0 +1,32 @@
+-- What a byte may be in a token, and what bytes begin with.
+use Rattle.std.specs.Prelude.{ℕ, Bool, false, ◌==◌, ◌&&◌, ◌||◌, not, List, [], ◌∷◌}
+use Rattle.std.specs.Char.{is_ascii_lowercase, is_ascii_uppercase, is_ascii_alphanumeric}
+
+-- letters, digits and `_`
+abbrev pub is_word : ℕ → Bool
+is_word b = is_ascii_alphanumeric b || b == 95
+
+abbrev pub is_letter : ℕ → Bool
+is_letter b = is_ascii_lowercase b || is_ascii_uppercase b
+
+abbrev pub is_quote : ℕ → Bool
+is_quote b = b == 34
+
+abbrev pub is_underscore : ℕ → Bool
+is_underscore b = b == 95
+
+abbrev pub is_open_square : ℕ → Bool
+is_open_square b = b == 91
+
+-- none of the others
+abbrev pub is_sign : ℕ → Bool
+is_sign b = not (is_word b) && not (is_quote b)
+
+-- space, tab, CR and LF
+abbrev pub is_blank : ℕ → Bool
+is_blank b = b == 32 || b == 9 || b == 13 || b == 10
+
+-- a first byte that passes the test
+abbrev pub begins : (ℕ → Bool) → List ℕ → Bool
+begins test [] = false
+begins test (b ∷ bytes) = test b

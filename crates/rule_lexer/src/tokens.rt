@@ -1,0 +1,83 @@
+use thiserror::Error;
+
+/// A reserved word.
+#[derive(Clone, Copy, PartialEq, Eq, Debug)]
+pub enum Word {
+    Seq,
+    And,
+    Par,
+    Or,
+    Equals,
+    Meets,
+    During,
+    Starts,
+    Finishes,
+    Not,
+    Where,
+    Within,
+    Show,
+}
+
+/// A sign. The last three are the uses of a stop.
+#[derive(Clone, Copy, PartialEq, Eq, Debug)]
+pub enum Mark {
+    OpenRound,
+    CloseRound,
+    OpenSquare,
+    CloseSquare,
+    Comma,
+    Arrow,
+    Plus,
+    Minus,
+    Star,
+    Slash,
+    Percent,
+    Equal,
+    NotEqual,
+    Less,
+    LessEqual,
+    Greater,
+    GreaterEqual,
+    Both,
+    Either,
+    Bang,
+    Limits,
+    Length,
+    End,
+}
+
+#[derive(Clone, Copy, PartialEq, Eq, Debug)]
+pub enum TokenKind {
+    Name,
+    Var,
+    Word(Word),
+    Wild,
+    Number(u64),
+    Text,
+    Mark(Mark),
+}
+
+/// A token and its place: its text is the slice from `from` to `to`.
+#[derive(Clone, Copy, PartialEq, Eq, Debug)]
+pub struct Token {
+    pub kind: TokenKind,
+    pub from: usize,
+    pub to: usize,
+}
+
+/// Why no token begins at a place.
+#[derive(Clone, Copy, PartialEq, Eq, Debug)]
+pub enum LexKind {
+    Byte,
+    OpenText,
+    BadEscape,
+    NumberRange,
+}
+
+/// A place where no token begins.
+#[derive(Clone, Copy, PartialEq, Eq, Debug, Error)]
+#[error("no token begins at byte {at}: {kind:?}")]
+pub struct LexFault {
+    pub at: usize,
+    pub kind: LexKind,
+}
