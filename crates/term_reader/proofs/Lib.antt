@@ -1,0 +1,10 @@
+pub mod Walks
+pub mod Loose
+pub mod Bytes
+pub mod Places
+pub mod Utf8
+pub mod Forms
+pub mod Names
+pub mod Letters
+pub mod Branches
+pub mod Wholes

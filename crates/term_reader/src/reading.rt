@@ -1,0 +1,54 @@
+// The two calls.
+ghost use Rattle.std.specs.Prelude.{◌≡◌, ◌≤◌, length};
+ghost use Rattle.term_reader.specs.Grammar.{TermRead, AtomRead};
+ghost use Rattle.term_reader.specs.Readings.{TermGiven, AtomGiven};
+
+use crate::faults::TermFault;
+use crate::peeking::{is_blank_at, is_name_at, opens};
+use crate::trees::{args_at, tree_at};
+use crate::words::name_at;
+use ev_term::{Atom, Shared, Term};
+use std::alloc::Global;
+
+/// Reads the term that stands at a place, and gives the place behind it.
+pub fn read_ground(alloc: Global, bytes: &[u8], at: usize) -> Result<(Term, usize), TermFault>
+    requires { at ≤ length bytes.now }
+    ensures { TermRead bytes.now at result }
+{
+    term_at(alloc, bytes, at)
+}
+
+fn term_at(alloc: Global, bytes: &[u8], at: usize) -> Result<(Term, usize), TermFault>
+    requires { at ≤ length bytes.now }
+    ensures { TermGiven bytes.now at result }
+{
+    if is_blank_at(bytes, at) {
+        return Err(TermFault::Syntax(at));
+    }
+    tree_at(alloc, bytes, at, 1)
+}
+
+/// Reads the atom that stands at a place, and gives the place behind it.
+pub fn read_atom(alloc: Global, bytes: &[u8], at: usize) -> Result<(Atom, usize), TermFault>
+    requires { at ≤ length bytes.now }
+    ensures { AtomRead bytes.now at result }
+{
+    atom_at(alloc, bytes, at)
+}
+
+fn atom_at(alloc: Global, bytes: &[u8], at: usize) -> Result<(Atom, usize), TermFault>
+    requires { at ≤ length bytes.now }
+    ensures { AtomGiven bytes.now at result }
+{
+    if !is_name_at(bytes, at) {
+        return Err(TermFault::Syntax(at));
+    }
+    let (name, end) = name_at(alloc, bytes, at)?;
+    if !opens(bytes, end) {
+        let args = Shared::new(alloc, Vec::new(alloc))?;
+        return Ok((Atom { name, args }, end));
+    }
+    let (args, close) = args_at(alloc, bytes, end, 0)?;
+    let args = Shared::new(alloc, args)?;
+    Ok((Atom { name, args }, close))
+}
