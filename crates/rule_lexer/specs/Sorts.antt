@@ -18,7 +18,7 @@ is_underscore b = b == 95
 abbrev pub is_open_square : ℕ → Bool
 is_open_square b = b == 91
 
--- none of the others
+-- neither a letter, a digit, `_` nor a quote
 abbrev pub is_sign : ℕ → Bool
 is_sign b = not (is_word b) && not (is_quote b)
 
