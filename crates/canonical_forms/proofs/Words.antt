@@ -1,19 +1,18 @@
 -- What stands in names.
-use Rattle.std.proofs.Common.{◌≡◌, ℕ, suc, ◌<◌, ◌^◌, ◌==◌, true, false, List, [], ◌∷◌, ap, sym, subst, ◌∙◌, arith}
-use Rattle.std.specs.Prelude.{ℤ, pos, negsuc, not, codes}
+use Rattle.std.proofs.Common.{◌≡◌, ℕ, ◌<◌, ◌^◌, true, false, List, [], ◌∷◌, ap, sym, subst, ◌∙◌, arith}
+use Rattle.std.specs.Prelude.{not, codes}
 use Rattle.std.specs.Int.{IsInRange}
 use Rattle.std.specs.List.{list_all}
 use Rattle.std.specs.Char.{is_ascii_lowercase, is_ascii_uppercase}
-use Rattle.std.specs.Fmt.{decimal, signed_decimal}
+use Rattle.std.specs.Fmt.{decimal}
 use Rattle.std.specs.Str.{IsAscii, IsUtf8, bytes_eq}
 use Rattle.std.specs.Str.Parse.{AllDigits}
-use Rattle.std.proofs.lemmas.Bool.{and_parts, ne_eqb, both_ways, ltb-true}
+use Rattle.std.proofs.lemmas.Bool.{and_parts, ne_eqb, both_ways}
 use Rattle.std.proofs.lemmas.Bool.Decides.{nat_tests}
 use Rattle.std.proofs.lemmas.Str.{IsUtf8-from_ascii}
 use Rattle.std.proofs.lemmas.Str.Ascii.{IsAscii-nil, IsAscii-cons}
 use Rattle.std.proofs.lemmas.Str.Parse.{digit_from_value}
 use Rattle.canonical_forms.specs.Pieces.{is_word_byte, is_name}
-use Rattle.canonical_forms.specs.EventLine.{is_i64}
 use Rattle.canonical_forms.specs.RuleFile.{begins_as_var, is_var, is_rule_name, is_among, reserved_words}
 use Rattle.canonical_forms.proofs.NumberTexts.{own_digits}
 use Rattle.canonical_forms.proofs.CutLaws.{Lacks}
@@ -84,7 +83,3 @@ digits_lack m (c ∷ cs) out d = (ne_eqb c m (λ same. out (subst (IsInRange 48 
 
 pub decimal_lacks : (m n : ℕ) → (IsInRange 48 57 m → ⊥) → n < 2 ^ 64 → Lacks m (decimal n)
 decimal_lacks m n out small = digits_lack m (decimal n) out (own_digits n small)
-
-pub signed_lacks : (m : ℕ) (z : ℤ) → (IsInRange 48 57 m → ⊥) → (45 == m) ≡ false → is_i64 z ≡ true → Lacks m (signed_decimal z)
-signed_lacks m (pos n) out minus e = let small : n < 2 ^ 63 = ltb-true n (2 ^ 63) e in decimal_lacks m n out (omega arith)
-signed_lacks m (negsuc n) out minus e = let small : n < 2 ^ 63 = ltb-true n (2 ^ 63) e in (minus, decimal_lacks m (suc n) out (omega arith))

@@ -19,10 +19,17 @@ mod tests {
 
     #[test]
     fn an_event_is_read(rt: HostRuntime) -> Result<(), Fail> {
-        let event = read_event_line(rt.alloc(), b"+ 30 a_1(-2)")?.expect(&rt, "an event");
+        let line = b"+ 30 a_1(-2,\"x\",f(b))";
+        let mut text = Vec::new(rt.alloc());
+        let event = read_event_line(rt.alloc(), line, &mut text)?.expect(&rt, "an event");
         assert_eq!(rt; event.time(), 30);
         assert_eq!(rt; event.atom().name.as_str(), "a_1");
-        assert!(rt; matches!(event.atom().args.as_slice(), [Term::Num(-2)]));
+        assert!(rt;
+            matches!(
+                event.atom().args.as_slice(),
+                [Term::Num(-2), Term::Text(_), Term::Comp(_, _)]
+            )
+        );
         Ok(())
     }
 

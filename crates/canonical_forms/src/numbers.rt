@@ -1,6 +1,6 @@
-// Numbers in their one text.
+// Times in their one text.
 ghost use Rattle.std.specs.Prelude.{◌≡◌, ◌<◌, ◌^◌, IfSome};
-ghost use Rattle.canonical_forms.specs.EventLine.{time_of, number_of};
+ghost use Rattle.canonical_forms.specs.EventLine.{time_of};
 
 use itoa::Buffer;
 
@@ -23,21 +23,4 @@ pub fn read_time(text: &[u8]) -> Option<u64>
         return None;
     }
     Some(time)
-}
-
-/// The number whose text this is.
-pub fn read_number(text: &[u8]) -> Option<i64>
-    ensures { result ≡ number_of text.now }
-{
-    let Ok(text) = str::from_utf8(text) else {
-        return None;
-    };
-    let Ok(number) = text.parse::<i64>() else {
-        return None;
-    };
-    let mut buffer = Buffer::new();
-    if buffer.format(number) != text {
-        return None;
-    }
-    Some(number)
 }

@@ -10,8 +10,8 @@ use ev_term::{Detection, Event};
 use pattern_meaning::{PairRule, scratch_pair};
 use std::alloc::{AllocError, Global};
 
-/// A rule, how many lines came, the events that are present, in order and each once, and what
-/// stands over them.
+/// A rule, how many lines came, the events that are present, in order and each once, what
+/// stands over them, and room for work.
 #[derive(Drop)]
 pub struct Session {
     alloc: Global,
@@ -19,6 +19,7 @@ pub struct Session {
     count: u64,
     events: Vec<Event>,
     standing: Vec<Detection>,
+    text: Vec<u8>,
     ghost events_rise: { rises event_cmp events.items ≡ true },
     ghost standing_rises: { rises detection_cmp standing.items ≡ true },
 }
@@ -40,6 +41,7 @@ impl Session {
             count: 0,
             events,
             standing,
+            text: Vec::new(alloc),
         })
     }
 
@@ -61,7 +63,7 @@ impl Session {
         ensures count { OnOk result (self.new.count ≡ self.old.count + 1) }
     {
         let number = self.count + 1;
-        let event = match read_event_line(self.alloc, line)? {
+        let event = match read_event_line(self.alloc, line, &mut self.text)? {
             Some(event) => event,
             None => {
                 unbuilt_text(number, out)?;

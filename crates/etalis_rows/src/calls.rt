@@ -1,8 +1,6 @@
 // Single calls on their happy path, with ample memory.
 use ev_bind::{Binding, match_atom};
-use ev_term::{
-    Atom, Event, Name, Pat, PatAtom, Pats, Slot, Term, Terms, atom_text, term_text,
-};
+use ev_term::{Atom, Event, Name, Pat, PatAtom, Pats, Slot, Term, Terms, atom_text, term_text};
 use pattern_meaning::{PairRule, scratch_pair};
 use std::alloc::{AllocError, Global};
 use std::test::Fail;

@@ -65,17 +65,18 @@ fn run_over(
 
 #[test]
 fn documented_outputs(rt: HostRuntime) -> Result<(), Fail> {
-    let rows: [(&[u8], &[u8]); 5] = [
-        (
-            b"+ 1 a(7)\n+ 2 b(7)\n",
-            b"ok 1\n+ 1 2 ab(7)\nok 2\nend 2\n",
-        ),
+    let rows: [(&[u8], &[u8]); 6] = [
+        (b"+ 1 a(7)\n+ 2 b(7)\n", b"ok 1\n+ 1 2 ab(7)\nok 2\nend 2\n"),
         (b"+ 1 a(7)\n+ 1 b(7)\n", b"ok 1\nok 2\nend 2\n"),
         (
             b"+ 5 ab(9)\n+ 5 ab(9)\n",
             b"+ 5 5 ab(9)\nok 1\nok 2\nend 2\n",
         ),
         (b"", b"end 0\n"),
+        (
+            b"+ 1 a(\"x,\\n\")\n+ 2 a(f(g,-2))\n+ 3 b(\"x,\\n\")\n+ 3 b(f(g, -2))\n+ 4 b(f(g,-2))\n",
+            b"ok 1\nok 2\n+ 1 3 ab(\"x,\\n\")\nok 3\nno 4 unbuilt\n+ 2 4 ab(f(g,-2))\nok 5\nend 5\n",
+        ),
         (
             b"+ 1 a(7)\n- 1 a(7)\n+ 1 a(7)\r\n+ 2 b(7)",
             b"ok 1\nno 2 unbuilt\nok 3\n+ 1 2 ab(7)\nok 4\nend 4\n",
@@ -111,10 +112,38 @@ fn pieces_make_no_difference(rt: HostRuntime) -> Result<(), Fail> {
 fn each_fault_has_its_status_and_note(rt: HostRuntime) -> Result<(), Fail> {
     let none: &[u64] = &[];
     let rows: [(&[u64], &[u64], &[u64], Status, &[u8], &[u8]); 8] = [
-        (&[1], none, none, Status::ReadFault, b"", b"etalis: cannot read rules\n"),
-        (&[2], none, none, Status::ReadFault, b"", b"etalis: cannot read rules\n"),
-        (none, &[1], none, Status::ReadFault, b"", b"etalis: cannot read input\n"),
-        (none, &[2], none, Status::ReadFault, b"ok 1\n", b"etalis: cannot read input\n"),
+        (
+            &[1],
+            none,
+            none,
+            Status::ReadFault,
+            b"",
+            b"etalis: cannot read rules\n",
+        ),
+        (
+            &[2],
+            none,
+            none,
+            Status::ReadFault,
+            b"",
+            b"etalis: cannot read rules\n",
+        ),
+        (
+            none,
+            &[1],
+            none,
+            Status::ReadFault,
+            b"",
+            b"etalis: cannot read input\n",
+        ),
+        (
+            none,
+            &[2],
+            none,
+            Status::ReadFault,
+            b"ok 1\n",
+            b"etalis: cannot read input\n",
+        ),
         (
             none,
             &[3],
@@ -123,8 +152,22 @@ fn each_fault_has_its_status_and_note(rt: HostRuntime) -> Result<(), Fail> {
             b"ok 1\n+ 1 2 ab(7)\nok 2\n",
             b"etalis: cannot read input\n",
         ),
-        (none, none, &[1], Status::WriteFault, b"", b"etalis: cannot write\n"),
-        (none, none, &[2], Status::WriteFault, b"ok 1\n", b"etalis: cannot write\n"),
+        (
+            none,
+            none,
+            &[1],
+            Status::WriteFault,
+            b"",
+            b"etalis: cannot write\n",
+        ),
+        (
+            none,
+            none,
+            &[2],
+            Status::WriteFault,
+            b"ok 1\n",
+            b"etalis: cannot write\n",
+        ),
         (
             none,
             none,
@@ -153,8 +196,7 @@ fn each_fault_has_its_status_and_note(rt: HostRuntime) -> Result<(), Fail> {
 
 #[test]
 fn refusals_write_nothing_but_their_note(rt: HostRuntime) -> Result<(), Fail> {
-    let usage: &[u8] =
-        b"etalis: usage: etalis MODE RULES [--late N] [--seed N] [--lines N]\n";
+    let usage: &[u8] = b"etalis: usage: etalis MODE RULES [--late N] [--seed N] [--lines N]\n";
     let rows: [(&[&str], &[u8], Status, &[u8]); 6] = [
         (&["walk", "r"], AB, Status::Usage, usage),
         (&["run"], AB, Status::Usage, usage),
@@ -166,7 +208,12 @@ fn refusals_write_nothing_but_their_note(rt: HostRuntime) -> Result<(), Fail> {
             Status::RulesRefused,
             b"etalis: rules: unbuilt\n",
         ),
-        (&["run", "s"], AB, Status::ReadFault, b"etalis: cannot read rules\n"),
+        (
+            &["run", "s"],
+            AB,
+            Status::ReadFault,
+            b"etalis: cannot read rules\n",
+        ),
     ];
     for row in rows {
         let ran = run_over(rt.alloc(), row.0, row.1, b"+ 1 a(7)\n", CALM)?;

@@ -70,7 +70,7 @@ no_more (b ∷ rest) e f = ap (λ c. cond c true (is_open (sign_of b))) e ∙ f
 pub behind_name : (xs : List ℕ) (w : Word) (k : Stack) → begins is_word xs ≡ false → begins is_open xs ≡ false → run xs (InWord w k) ≡ run xs (Behind (Name w) k NoBlank)
 behind_name xs w k e f = run_same is_more xs (InWord w k) (Behind (Name w) k NoBlank) (said_name w k) (no_more xs e f) (step_name w k)
 
-behind_number : (xs : List ℕ) (m : Bool) (ds : Digits) (k : Stack) → begins is_digit xs ≡ false → run xs (InNumber m ds k) ≡ run xs (Behind (Number m ds) k NoBlank)
+pub behind_number : (xs : List ℕ) (m : Bool) (ds : Digits) (k : Stack) → begins is_digit xs ≡ false → run xs (InNumber m ds k) ≡ run xs (Behind (Number m ds) k NoBlank)
 behind_number xs m ds k e = run_same is_digit xs (InNumber m ds k) (Behind (Number m ds) k NoBlank) (said_number m ds k) e (step_number m ds k)
 
 -- Terms.

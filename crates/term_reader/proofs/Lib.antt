@@ -8,3 +8,7 @@ pub mod Names
 pub mod Letters
 pub mod Branches
 pub mod Wholes
+pub mod Pieces
+pub mod Canonical
+pub mod Found
+pub mod SaidLaws

@@ -26,7 +26,7 @@ step_on : (lim : Bool) (s : State) (x : Sign) (s' : State) → step true s x ≡
 step_on true s x s' e = e
 step_on false s x s' e = loosened x (step true s x) (step false s x) s' e (step_loosens s x)
 
-leads_on : (a : Wanted) (s : State) (b : ℕ) (s' : State) (front : List ℕ) (to : State) → step true s (sign_of b) ≡ Some s' → Leads a s' front to → Leads a s (b ∷ front) to
+pub leads_on : (a : Wanted) (s : State) (b : ℕ) (s' : State) (front : List ℕ) (to : State) → step true s (sign_of b) ≡ Some s' → Leads a s' front to → Leads a s (b ∷ front) to
 unfolding signs
 leads_on a s b s' front to e l = record {
   reads = λ more. MatchOption-at_some (Unit {0}) (λ y. so_far s (sign_of b ∷ signs (front ++ more)) ≡ so_far y (signs (front ++ more))) s' e (step_keeps true s (sign_of b) (signs (front ++ more))) ∙ l.reads more;
@@ -34,7 +34,7 @@ leads_on a s b s' front to e l = record {
   fine = l.fine;
 }
 
-stays : (a : Wanted) (s : State) → FineState true a s → Leads a s [] s
+pub stays : (a : Wanted) (s : State) → FineState true a s → Leads a s [] s
 stays a s f = record { reads = λ more. refl; walks = λ lim more. refl; fine = f }
 
 abbrev pub IsStuck : Bool → State → List ℕ → Type 0
@@ -129,7 +129,7 @@ viable_by a lim front to reads f = let e = ends lim a to f in (e.1, e.0, e.2, sy
     begins AnAtom xs = refl
 
 -- one more step without the limits
-viable_past : (a : Wanted) (front : List ℕ) (to : State) (b : ℕ) (on : State) → Leads a (start a) front to → step false to (sign_of b) ≡ Some on → Viable false a (front ++ b ∷ [])
+pub viable_past : (a : Wanted) (front : List ℕ) (to : State) (b : ℕ) (on : State) → Leads a (start a) front to → step false to (sign_of b) ≡ Some on → Viable false a (front ++ b ∷ [])
 unfolding signs
 viable_past a front to b on l e =
     viable_by a false (front ++ b ∷ []) on
@@ -186,7 +186,7 @@ past a front rest to k l h =
       },
     )
 
-start_fine : (a : Wanted) → FineState true a (start a)
+pub start_fine : (a : Wanted) → FineState true a (start a)
 start_fine AnyTerm = (tt, refl)
 start_fine AnAtom = refl
 

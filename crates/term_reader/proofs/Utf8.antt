@@ -72,13 +72,13 @@ of_four x y z u a l m n o v w p q =
 
 -- what the table says of a first byte, by the number of bytes that come behind the second
 
-abbrev FirstBy : ℕ → ℕ → ℕ → ℕ → Type 0
+abbrev pub FirstBy : ℕ → ℕ → ℕ → ℕ → Type 0
 FirstBy x low high zero = (194 ≤ x) × (x < 224) × (128 ≤ low) × (high ≤ 191)
 FirstBy x low high (suc zero) = (224 ≤ x) × (x < 240) × (128 ≤ low) × (high ≤ 191) × (32 ≤ (x - 224) * 64 + (low - 128)) × (((x - 224) * 64 + (high - 128) < 864) ⊎ (896 ≤ (x - 224) * 64 + (low - 128)))
 FirstBy x low high (suc (suc zero)) = (240 ≤ x) × (128 ≤ low) × (high ≤ 191) × (16 ≤ (x - 240) * 64 + (low - 128)) × ((x - 240) * 64 + (high - 128) < 272)
 FirstBy x low high n = ⊥
 
-abbrev First : ℕ → Status → Type 0
+abbrev pub First : ℕ → Status → Type 0
 First x Wrong = Unit {0}
 First x Whole = ⊥
 First x (Needs n) = FirstBy x n.low n.high n.more
@@ -90,7 +90,7 @@ row x bound s u h k = at (nat_lt x bound) refl
     at true e = h (ltb-true _ _ e)
     at false e = k (ltb-false _ _ e)
 
-first_by : (x : ℕ) → First x (status_first x)
+pub first_by : (x : ℕ) → First x (status_first x)
 first_by x =
     row x 0xC2 Wrong _ (λ h. tt) (λ a.
     row x 0xE0 (needs 0x80 0xBF 0) _ (λ h. (omega arith, omega arith, omega arith, omega arith)) (λ b.

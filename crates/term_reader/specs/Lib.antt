@@ -3,3 +3,5 @@ pub mod Grammar
 pub mod Machine
 pub mod Steps
 pub mod Readings
+pub mod Limits
+pub mod Said

@@ -1,6 +1,7 @@
 // The two calls.
 ghost use Rattle.std.specs.Prelude.{◌≡◌, ◌≤◌, length};
 ghost use Rattle.term_reader.specs.Grammar.{TermRead, AtomRead};
+ghost use Rattle.term_reader.specs.Limits.{TermBack, AtomBack, TermFound, AtomFound};
 ghost use Rattle.term_reader.specs.Readings.{TermGiven, AtomGiven};
 
 use crate::faults::TermFault;
@@ -10,10 +11,13 @@ use crate::words::name_at;
 use ev_term::{Atom, Shared, Term};
 use std::alloc::Global;
 
-/// Reads the term that stands at a place, and gives the place behind it.
+/// Reads the term that stands at a place, and gives the place behind it. A name and a number take as many bytes as they can,
+/// and a name that is followed at once by `(` begins a compound.
 pub fn read_ground(alloc: Global, bytes: &[u8], at: usize) -> Result<(Term, usize), TermFault>
     requires { at ≤ length bytes.now }
-    ensures { TermRead bytes.now at result }
+    ensures read { TermRead bytes.now at result }
+    ensures found { TermFound bytes.now at result }
+    ensures canonical { TermBack bytes.now at result }
 {
     term_at(alloc, bytes, at)
 }
@@ -28,15 +32,17 @@ fn term_at(alloc: Global, bytes: &[u8], at: usize) -> Result<(Term, usize), Term
     tree_at(alloc, bytes, at, 1)
 }
 
-/// Reads the atom that stands at a place, and gives the place behind it.
+/// Reads the atom that stands at a place, and gives the place behind it. Its arguments may be 16 deep.
 pub fn read_atom(alloc: Global, bytes: &[u8], at: usize) -> Result<(Atom, usize), TermFault>
     requires { at ≤ length bytes.now }
-    ensures { AtomRead bytes.now at result }
+    ensures read { AtomRead bytes.now at result }
+    ensures found { AtomFound bytes.now at result }
+    ensures canonical { AtomBack bytes.now at result }
 {
     atom_at(alloc, bytes, at)
 }
 
-fn atom_at(alloc: Global, bytes: &[u8], at: usize) -> Result<(Atom, usize), TermFault>
+pub(crate) fn atom_at(alloc: Global, bytes: &[u8], at: usize) -> Result<(Atom, usize), TermFault>
     requires { at ≤ length bytes.now }
     ensures { AtomGiven bytes.now at result }
 {
