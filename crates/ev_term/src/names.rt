@@ -1,5 +1,5 @@
 // Texts with several owners.
-ghost use Rattle.std.specs.Prelude.{◌≡◌, IfOk};
+ghost use Rattle.std.specs.Prelude.{◌≡◌, IfOk, string_bytes};
 
 use std::alloc::{AllocError, Global};
 use std::marker::Model;
@@ -24,7 +24,13 @@ impl Name {
     pub fn new(alloc: Global, text: &str) -> Result<Name, AllocError>
         ensures { IfOk result (λ n. n ≡ text.now) }
     {
-        let text = String::from_str(alloc, text)?;
+        Name::from_string(alloc, String::from_str(alloc, text)?)
+    }
+
+    /// The text of a string that is taken as it is, with one owner.
+    pub fn from_string(alloc: Global, text: String) -> Result<Name, AllocError>
+        ensures { IfOk result (λ n. n ≡ string_bytes text) }
+    {
         Ok(Name {
             text: Rc::new(alloc, text)?,
         })

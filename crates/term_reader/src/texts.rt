@@ -10,12 +10,12 @@ use ev_term::Name;
 use std::alloc::{AllocError, Global};
 
 // The text of these bytes.
-fn text_of(alloc: Global, bytes: &[u8]) -> Result<Name, AllocError>
-    requires { IsUtf8 bytes.now }
-    ensures { IfOk result (λ n. n ≡ bytes.now) }
+fn text_of(alloc: Global, bytes: Vec<u8>) -> Result<Name, AllocError>
+    requires { IsUtf8 bytes.items }
+    ensures { IfOk result (λ n. n ≡ bytes.items) }
 {
-    match str::from_utf8(bytes) {
-        Ok(text) => Name::new(alloc, text),
+    match String::from_utf8(bytes) {
+        Ok(text) => Name::from_string(alloc, text),
         Err(_) => unreachable!(),
     }
 }
@@ -153,7 +153,7 @@ pub(crate) fn text_at(alloc: Global, bytes: &[u8], at: usize) -> Result<(Name, u
     let mut end = at;
     while let Some(sign) = sign_at(bytes, end) {
         if is_quote(sign) {
-            return Ok((text_of(alloc, &text)?, end + 1));
+            return Ok((text_of(alloc, text)?, end + 1));
         }
         end = letter_at(bytes, end, sign, &mut text)?;
     }
