@@ -1,8 +1,9 @@
 // Atoms by their canonical text alone.
-ghost use Rattle.std.specs.Prelude.{◌≡◌, ◌≤◌, if◌then◌else◌, ℕ, List, Option, Some, None, length, IfOk};
+ghost use Rattle.std.specs.Prelude.{◌≡◌, true, ◌≤◌, if◌then◌else◌, ℕ, List, Option, Some, None, length, IfOk};
 ghost use Rattle.std.specs.Str.{bytes_eq};
 ghost use Rattle.ev_term.specs.Text.{atom_text};
 ghost use Rattle.ev_term.specs.declared.atoms.Atom.{Atom};
+ghost use Rattle.term_reader.specs.Limits.{is_atom_within};
 ghost use Rattle.term_reader.specs.Said.{IsWritten, checked, atom_said};
 
 use crate::faults::TermFault;
@@ -45,8 +46,10 @@ pub fn read_canonical_atom(
     }
 }
 
-/// Bytes say an atom exactly where they are its canonical text, and the grammar has that text within the limits.
+/// Bytes say an atom exactly where they are its canonical text, and the grammar has that text within the limits. It has the text of every atom within
+/// the limits.
 pub fn canonical_atoms_are_exact()
     ensures heard { (a : Atom) → IsWritten a → atom_said (atom_text a) ≡ Some a }
     ensures said { (bytes : List ℕ) (a : Atom) → atom_said bytes ≡ Some a → (bytes ≡ atom_text a) × IsWritten a }
+    ensures within { (a : Atom) → is_atom_within a ≡ true → IsWritten a }
 {}
