@@ -1,0 +1,5 @@
+pub mod Trees
+pub mod Marks
+pub mod Tokens
+pub mod Values
+pub mod Texts
