@@ -3,3 +3,5 @@ pub mod Marks
 pub mod Tokens
 pub mod Values
 pub mod Texts
+pub mod Lists
+pub mod Machine
