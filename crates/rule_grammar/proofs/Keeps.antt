@@ -19,20 +19,20 @@ use Rattle.rule_grammar.specs.Machine.{Stack, Stack.Body, Stack.InRound, Stack.I
 use Rattle.rule_grammar.specs.Machine.{AtomPlace, OperandPlace, HeadPlace, State, State.Between, State.HeadName, State.WantHeadTerm, State.HeadMinus, State.HeadWord, State.HaveHeadTerms, State.InHead, State.HaveHead, State.WantItem, State.ItemName, State.ItemSlash, State.HaveItems, State.WantPart, State.AtomName, State.InAtom, State.WantOpen, State.WantLimits, State.HavePart, State.HaveRound, State.WantExact, State.WantMost, State.WantNegation, State.WantUnit, State.UnitMinus, State.UnitName, State.InOperand, State.HaveProduct}
 use Rattle.rule_grammar.specs.Machine.{depth, where_depth, or_depth, and_depth, not_depth, compare_depth, sum_depth, product_depth, have_unit, over_product, over_sum, over_negation, over_all, over_condition, Step, to, first_all, first_unit, behind, behind_chain, behind_condition, behind_all, behind_negation, behind_comparison, behind_sum, behind_all_products, behind_product, behind_unit, want_unit, reads_nothing, reads_wanted, reads_variable, in_head, in_atom, in_operand, have_head_term, behind_head_terms, step, chain_head, terms_head, items_head, begun, stack, where_head, or_head, and_head, not_head, compare_head, sum_head, product_head, atom_place, operand_place, head_place, so_far}
 
-put_reads : (d : ℕ) (h : ChainHead) (p : Part) (rest : List Marked) → chain_head d h (part d p rest) ≡ chain d (put h p) rest
+pub put_reads : (d : ℕ) (h : ChainHead) (p : Part) (rest : List Marked) → chain_head d h (part d p rest) ≡ chain d (put h p) rest
 put_reads d FirstPart p rest = refl
 put_reads d (NextPart c j) p rest = refl
 
-put_head_reads : (h : TermsHead) (a : HeadTerm) (rest : List Marked) → terms_head h (head_term a rest) ≡ head_terms (put_head h a) rest
+pub put_head_reads : (h : TermsHead) (a : HeadTerm) (rest : List Marked) → terms_head h (head_term a rest) ≡ head_terms (put_head h a) rest
 put_head_reads FirstOfHead a rest = refl
 put_head_reads (NextOfHead as') a rest = refl
 
-put_item_reads : (h : ItemsHead) (name : List ℕ) (n : ℕ) (rest : List Marked)
+pub put_item_reads : (h : ItemsHead) (name : List ℕ) (n : ℕ) (rest : List Marked)
     → items_head h (quiet (t.Name name) (quiet t.Slash ((HasArity n, t.Number n) ∷ rest))) ≡ items (put_item h name n) rest
 put_item_reads FirstShown name n rest = refl
 put_item_reads (NextShown is) name n rest = refl
 
-put_term_reads : {W : Type 0} (spell : W → Lexeme) (d : ℕ) (b : Before W) (a : Term W) (rest : List Marked)
+pub put_term_reads : {W : Type 0} (spell : W → Lexeme) (d : ℕ) (b : Before W) (a : Term W) (rest : List Marked)
     → before spell d b (term spell Quiet d a rest) ≡ arguments spell d (put_term b a) rest
 put_term_reads spell d Start a rest = refl
 put_term_reads spell d (Behind as') a rest = refl
@@ -91,7 +91,7 @@ along : {was was' : List Marked → List Marked} → ((ms : List Marked) → was
 along e x rest None h = tt
 along e x rest (Some y) h = e ((y.0, x) ∷ rest) ∙ h
 
-have_unit_reads : (h : ProductHead) (u : Unit') (rest : List Marked) → product_head h (unit (product_depth h) u rest) ≡ so_far (have_unit h u) rest
+pub have_unit_reads : (h : ProductHead) (u : Unit') (rest : List Marked) → product_head h (unit (product_depth h) u rest) ≡ so_far (have_unit h u) rest
 have_unit_reads (FirstUnit s) u rest = refl
 have_unit_reads (NextUnit s p op) u rest = refl
 
