@@ -1,7 +1,8 @@
 //! All tokens of a text.
 
-ghost use Rattle.std.specs.Prelude.{◌≡◌, ◌<◌, ◌≤◌, ◌^◌, [], IfOk, IsCharBoundary, slice_range};
+ghost use Rattle.std.specs.Prelude.{◌≡◌, ◌<◌, ◌≤◌, ◌-◌, ◌^◌, ℕ, Bool, List, [], length, IfOk, IsCharBoundary, slice_range};
 ghost use Rattle.rule_lexer.specs.Places.{TokenAt};
+ghost use Rattle.rule_tokens.specs.declared.lexemes.Lexeme.{Lexeme};
 ghost use Rattle.rule_tokens.specs.Lexing.{lexeme_of, Lexing};
 
 use crate::lexemes::{Lexeme, Natural};
@@ -85,3 +86,9 @@ pub fn lex(alloc: Global, text: &str) -> Result<Lexed, AllocError>
         }
     }
 }
+
+/// A text has its tokens in one way, and no more of them than bytes.
+pub fn one_lexing()
+    ensures same { (text : List ℕ) (at : ℕ) (ts us : List Lexeme) (ps qs : List ℕ) (m n : ℕ) (v w : Bool) → Lexing text at ts ps m v → Lexing text at us qs n w → (ts ≡ us) × (ps ≡ qs) × (m ≡ n) × (v ≡ w) }
+    ensures few { (text : List ℕ) (at : ℕ) (ts : List Lexeme) (ps : List ℕ) (end : ℕ) (whole : Bool) → Lexing text at ts ps end whole → length ts ≤ length text - at }
+{}

@@ -7,4 +7,4 @@ mod tables;
 mod texts;
 
 pub use lexemes::{Lexeme, Natural};
-pub use lexing::{Lexed, lex};
+pub use lexing::{Lexed, lex, one_lexing};
