@@ -1,0 +1,4 @@
+pub mod Chains
+pub mod Unescaping
+pub mod TextPlaces
+pub mod OneLexing

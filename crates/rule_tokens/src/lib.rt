@@ -2,5 +2,9 @@
 #![tactic(auto)]
 
 mod lexemes;
+mod lexing;
+mod tables;
+mod texts;
 
 pub use lexemes::{Lexeme, Natural};
+pub use lexing::{Lexed, lex, one_lexing};
