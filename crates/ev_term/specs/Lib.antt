@@ -6,3 +6,4 @@ pub mod EventOrder
 pub mod Text
 pub mod Lines
 pub mod Presence
+pub mod SlotSets

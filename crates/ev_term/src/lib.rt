@@ -7,6 +7,7 @@ mod events;
 mod lists;
 mod names;
 mod operators;
+mod slot_sets;
 mod terms;
 mod texts;
 
@@ -16,5 +17,6 @@ pub use events::{Detection, Event, Span};
 pub use lists::Shared;
 pub use names::Name;
 pub use operators::{Edge, Op};
+pub use slot_sets::Slots;
 pub use terms::{Pat, Pats, Slot, Term, Terms};
 pub use texts::{atom_text, term_text};

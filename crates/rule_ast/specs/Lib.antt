@@ -1,3 +1,4 @@
 pub mod Trees
 pub mod Plain
 pub mod Shaped
+pub mod Vars

@@ -1,0 +1,3 @@
+pub mod Offenders
+pub mod Sound
+pub mod Faults

@@ -1,0 +1,7 @@
+//! Whether a file of rules is sound: each variable is bound where it is used, each shown name heads a rule, and no name stands
+//! on itself.
+#![tactic(auto)]
+
+mod faults;
+
+pub use faults::CheckFault;
