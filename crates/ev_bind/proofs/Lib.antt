@@ -3,3 +3,4 @@ pub mod Comparing
 pub mod Merging
 pub mod Fitting
 pub mod Uniting
+pub mod Projecting

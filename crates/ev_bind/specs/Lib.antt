@@ -2,3 +2,4 @@ pub mod Bindings
 pub mod Matching
 pub mod Rows
 pub mod Fits
+pub mod Projections

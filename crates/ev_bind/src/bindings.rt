@@ -1,10 +1,13 @@
 // The values of some variables.
 ghost use Rattle.std.specs.Prelude.{◌≡◌, ◌∷◌, [], IfOk};
+ghost use Rattle.std.specs.Bool.{Decides};
 ghost use Rattle.std.specs.Option.{option_copied};
 ghost use Rattle.ev_bind.specs.Bindings.{IsBinding, join, value_at};
+ghost use Rattle.ev_bind.specs.Projections.{project};
 
 use crate::pairs::{add_pair, add_pairs, copy_pairs, has_pairs, same_terms, value_of};
-use ev_term::{Shared, Slot, Term};
+use crate::projections::{all_in, copy_in, same_in};
+use ev_term::{Shared, Slot, Slots, Term};
 use std::alloc::{AllocError, Global};
 use std::marker::Model;
 
@@ -121,5 +124,26 @@ impl Binding {
             return Ok(Some(Binding::of_pairs(alloc, pairs)?));
         }
         Ok(None)
+    }
+
+    #[tactic(auto, using(crate::specs::Projections::is_binding_project))]
+    /// The pairs whose slot is in the set.
+    pub fn project(&self, alloc: Global, slots: &Slots) -> Result<Binding, AllocError>
+        ensures { IfOk result (λ b. b ≡ project slots.now self.now) }
+    {
+        let pairs = self.pairs();
+        if all_in(pairs, slots) {
+            return self.share();
+        }
+        let kept = copy_in(alloc, pairs, slots)?;
+        Binding::of_pairs(alloc, kept)
+    }
+
+    #[tactic(auto, using(crate::specs::Projections::same_pairs_decides))]
+    /// Whether both have the same pairs in these slots.
+    pub fn same_on(&self, other: &Binding, slots: &Slots) -> bool
+        ensures { Decides result (project slots.now self.now ≡ project slots.now other.now) }
+    {
+        same_in(self.pairs(), other.pairs(), slots)
     }
 }

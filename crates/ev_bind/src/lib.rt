@@ -6,6 +6,7 @@ mod instances;
 mod laws;
 mod matching;
 mod pairs;
+mod projections;
 mod rows;
 
 pub use bindings::Binding;

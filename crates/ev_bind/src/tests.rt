@@ -1,6 +1,6 @@
 // The happy paths.
 use crate::{Binding, Row, instance_atom, match_atom};
-use ev_term::{Atom, Name, Pat, PatAtom, Shared, Slot, Span, Term};
+use ev_term::{Atom, Name, Pat, PatAtom, Shared, Slot, Slots, Span, Term};
 use std::alloc::{AllocError, Global};
 use std::test::Fail;
 
@@ -59,6 +59,9 @@ fn bindings_grow(rt: HostRuntime) -> Result<(), Fail> {
         .ok_or("second")?;
     let both = second.merge(alloc, &first)?.ok_or("both")?;
     assert!(rt; is_binding_of(&both, &[1, 2]));
+    let slots = Slots::empty().add(Slot::new(0));
+    assert!(rt; is_binding_of(&both.project(alloc, &slots)?, &[1]));
+    assert!(rt; both.same_on(&first, &slots) && !both.same_on(&second, &slots));
     let row = Row {
         binding: both,
         span: Span::new(1, 2),
