@@ -55,9 +55,11 @@ last_tick = 2 ^ 62 - 1
 abbrev pub empty_range : Edge → Range
 empty_range edge = record { edge = edge; low = 1; high = 0 }
 
+-- the tick t alone
 abbrev pub range_at : Edge → ℕ → Range
 range_at edge t = record { edge = edge; low = t; high = t }
 
+-- the ticks from t on
 abbrev pub range_from : Edge → ℕ → Range
 range_from edge t = record { edge = edge; low = t; high = last_tick }
 
@@ -65,7 +67,7 @@ range_from edge t = record { edge = edge; low = t; high = last_tick }
 abbrev pub range_before : Edge → ℕ → ℕ → Range
 range_before edge first t = cond (t == 0) (empty_range edge) (record { edge = edge; low = first; high = t - 1 })
 
--- where the partners of a span lie that stands on the side
+-- where the partners of a span lie, which stands on the side itself
 abbrev pub partner_range : Op → Side → PlainSpan → Range
 partner_range Seq Left x = range_from Start (x.end + 1)
 partner_range Seq Right y = range_before End 0 y.start
@@ -79,6 +81,7 @@ partner_range During Right y = range_before Start (y.start + 1) y.end
 partner_range Starts side s = range_at Start s.start
 partner_range Finishes side s = range_at End s.end
 
+-- the tick at the edge of the span
 abbrev pub edge_of : Edge → PlainSpan → ℕ
 edge_of Start s = s.start
 edge_of End s = s.end
@@ -87,7 +90,7 @@ edge_of End s = s.end
 abbrev pub in_range : Range → PlainSpan → Bool
 in_range r s = nat_le r.low (edge_of r.edge s) && nat_le (edge_of r.edge s) r.high
 
--- the operators whose partners are all the spans of their range
+-- whether all spans in the range of the operator are partners
 abbrev pub decided_by_range : Op → Bool
 decided_by_range Seq = true
 decided_by_range And = true

@@ -60,8 +60,8 @@ fn range_before(edge: Edge, first: u64, tick: u64) -> Range
     }
 }
 
-/// Where the partners lie of a span that stands on the side. Each partner lies there; under `Seq`, `And` and `Meets` each
-/// span that lies there is a partner.
+/// Where the partners of a span lie, which stands on the side itself. Under `Seq`, `And` and `Meets` each span that lies
+/// there is a partner; under the other operators some are not, and [`crate::pair`] tells.
 pub fn partner_range(op: Op, side: Side, span: Span) -> Range
     ensures { result ≡ partner_range op side span }
 {
