@@ -40,13 +40,13 @@ with_token names (Var name) = with_name names name
 with_token names t = names
 
 abbrev pub with_parts : Counted → ℕ → Lexeme → Counted
-with_parts g n t = record { parts = g.parts + n; names = with_token g.names t }
+with_parts g n t = record { parts = n; names = with_token g.names t }
 
 abbrev pub count : Counted → Marked → Counted
 count g (Starts n, t) = nothing_counted
-count g (Single, t) = with_parts g 1 t
-count g (Binary, t) = with_parts g 1 t
-count g (r, t) = with_parts g 0 t
+count g (Single, t) = with_parts g (g.parts + 1) t
+count g (Binary, t) = with_parts g (g.parts + 1) t
+count g (r, t) = with_parts g g.parts t
 
 abbrev pub count_all : Counted → List Marked → Counted
 count_all g [] = g
