@@ -21,7 +21,7 @@ use Rattle.rule_grammar.specs.Tokens.{statement}
 -- the place of a name in a list, from 0
 abbrev pub slot_of : List (List ℕ) → List ℕ → ℕ
 slot_of [] name = 0
-slot_of (n ∷ names) name = cond (bytes_eq n name) 0 (slot_of names name + 1)
+slot_of (n ∷ names) name = cond (bytes_eq name n) 0 (slot_of names name + 1)
 
 abbrev pub variable : List (List ℕ) → List ℕ → Pat
 variable names name = pat.Var (slot_of names name)
