@@ -1,0 +1,101 @@
+-- The tokens that are words or signs of their own.
+use Rattle.std.specs.Prelude.{◌≡◌, ℕ, List, [], ◌∷◌, Option, Some, None}
+use Rattle.rule_tokens.specs.declared.lexemes.Lexeme.{Lexeme}
+use Rattle.rule_tokens.specs.declared.lexemes.Lexeme.TheVariants as t
+use Rattle.rule_grammar.specs.Trees.{Adding.Added, Adding.Taken, Scaling.Times, Scaling.Over, Scaling.Modulo, Joint.Joined, Joint.Otherwise}
+use Rattle.rule_grammar.specs.Trees as trees
+use Rattle.rule_grammar.specs.Tokens.{adding, scaling, joint}
+use Rattle.rule_parser.specs.declared.signs.Sign.{Sign}
+use Rattle.rule_parser.specs.declared.signs.Sign.TheVariants as sign
+use Rattle.rule_parser.specs.declared.signs.Joint.{Joint}
+use Rattle.rule_parser.specs.declared.signs.Joint.TheVariants as joints
+use Rattle.rule_parser.specs.declared.signs.Adding.{Adding}
+use Rattle.rule_parser.specs.declared.signs.Adding.TheVariants as addings
+use Rattle.rule_parser.specs.declared.signs.Scaling.{Scaling}
+use Rattle.rule_parser.specs.declared.signs.Scaling.TheVariants as scalings
+
+abbrev pub lexeme_of : Sign → Lexeme
+lexeme_of sign.Arrow = t.Arrow
+lexeme_of sign.Bang = t.Bang
+lexeme_of sign.Both = t.Both
+lexeme_of sign.Close = t.Close
+lexeme_of sign.Comma = t.Comma
+lexeme_of sign.Either = t.Either
+lexeme_of sign.End = t.End
+lexeme_of sign.Length = t.Length
+lexeme_of sign.Limits = t.Limits
+lexeme_of sign.Minus = t.Minus
+lexeme_of sign.Not = t.Not
+lexeme_of sign.Open = t.Open
+lexeme_of sign.Show = t.Show
+lexeme_of sign.Slash = t.Slash
+lexeme_of sign.Square = t.Square
+lexeme_of sign.Where = t.Where
+lexeme_of sign.Within = t.Within
+
+abbrev pub sign_of : Lexeme → Option Sign
+sign_of t.Arrow = Some sign.Arrow
+sign_of t.Bang = Some sign.Bang
+sign_of t.Both = Some sign.Both
+sign_of t.Close = Some sign.Close
+sign_of t.Comma = Some sign.Comma
+sign_of t.Either = Some sign.Either
+sign_of t.End = Some sign.End
+sign_of t.Length = Some sign.Length
+sign_of t.Limits = Some sign.Limits
+sign_of t.Minus = Some sign.Minus
+sign_of t.Not = Some sign.Not
+sign_of t.Open = Some sign.Open
+sign_of t.Show = Some sign.Show
+sign_of t.Slash = Some sign.Slash
+sign_of t.Square = Some sign.Square
+sign_of t.Where = Some sign.Where
+sign_of t.Within = Some sign.Within
+sign_of x = None
+
+abbrev pub joint_of : Joint → trees.Joint
+joint_of (joints.Span op) = Joined op
+joint_of joints.Or = Otherwise
+
+abbrev pub adding_of : Adding → trees.Adding
+adding_of addings.Plus = Added
+adding_of addings.Minus = Taken
+
+abbrev pub scaling_of : Scaling → trees.Scaling
+scaling_of scalings.Star = Times
+scaling_of scalings.Slash = Over
+scaling_of scalings.Percent = Modulo
+
+abbrev pub joint_lexeme : Joint → Lexeme
+joint_lexeme j = joint (joint_of j)
+
+abbrev pub adding_lexeme : Adding → Lexeme
+adding_lexeme a = adding (adding_of a)
+
+abbrev pub scaling_lexeme : Scaling → Lexeme
+scaling_lexeme s = scaling (scaling_of s)
+
+-- no such token stands first
+abbrev pub Lacks : Sign → List Lexeme → Type 0
+Lacks s [] = Unit {0}
+Lacks s (x ∷ xs) = ¬ (sign_of x ≡ Some s)
+
+abbrev pub LacksJoint : List Lexeme → Type 0
+LacksJoint (t.Op op ∷ xs) = ⊥
+LacksJoint (t.Or ∷ xs) = ⊥
+LacksJoint xs = Unit {0}
+
+abbrev pub LacksAdding : List Lexeme → Type 0
+LacksAdding (t.Plus ∷ xs) = ⊥
+LacksAdding (t.Minus ∷ xs) = ⊥
+LacksAdding xs = Unit {0}
+
+abbrev pub LacksScaling : List Lexeme → Type 0
+LacksScaling (t.Star ∷ xs) = ⊥
+LacksScaling (t.Slash ∷ xs) = ⊥
+LacksScaling (t.Percent ∷ xs) = ⊥
+LacksScaling xs = Unit {0}
+
+abbrev pub LacksCompare : List Lexeme → Type 0
+LacksCompare (t.Compare cmp ∷ xs) = ⊥
+LacksCompare xs = Unit {0}
