@@ -2,7 +2,11 @@
 #![tactic(auto)]
 
 mod faults;
+mod ledger;
 mod signs;
+mod terms;
 
 pub use faults::{ParseFault, Stop};
+pub use ledger::{Ledger, add_part, slot_of};
+pub use terms::Kind;
 pub use signs::{sign_of, take_first, skip, syntax, limit, expect, take_joint, take_adding, take_scaling, take_compare, Sign, Joint, Adding, Scaling};

@@ -1,0 +1,264 @@
+-- What a function that reads tokens gives, under every context in which they can stand.
+use Rattle.std.specs.Prelude.{◌≡◌, ℕ, ◌+◌, ◌<◌, ◌≤◌, Bool, true, false, List, [], ◌∷◌, ◌++◌, length, Option, Some, None, Result, Ok, Err}
+use Rattle.std.specs.List.{list_any}
+use Rattle.std.specs.Str.{bytes_eq}
+use Rattle.std.specs.Borrow.{Bor}
+use Rattle.ev_term.specs.declared.terms.Pat.{Pat}
+use Rattle.rule_tokens.specs.declared.lexemes.Lexeme.{Lexeme}
+use Rattle.rule_tokens.specs.declared.lexemes.Lexeme.TheVariants as t
+use Rattle.rule_grammar.specs.declared.faults.Which.{Which}
+use Rattle.rule_grammar.specs.declared.faults.Which.TheVariants as which
+use Rattle.rule_grammar.specs.declared.faults.Fault.{Fault}
+use Rattle.rule_grammar.specs.declared.faults.Fault.TheVariants as fault
+use Rattle.rule_grammar.specs.Trees.{Literal, Literal.Digits, Literal.Minus, Literal.Least, Literal.Symbol, Literal.Quoted, Term, Arguments, Wanted, Wanted.Variable, Wanted.Anything, HeadTerm, HeadTerms, Heading, Condition, All, Negation, Comparison, Sum, Product, Unit', Tree, Chain, Part, Round, Statements}
+use Rattle.rule_grammar.specs.Marks.{Role, Counted, count, passed, with_name, with_parts}
+use Rattle.rule_grammar.specs.Marks.{Role.Quiet, Role.Single}
+use Rattle.rule_grammar.specs.Values.{slot_of, variable, wanted_value, never_value, literal_value, term_value, arguments_value, head_term_value, head_terms_value, condition_value, all_value, negation_value, comparison_value, sum_value, product_value, unit_value, tree_value, chain_value, part_value, round_value}
+use Rattle.rule_grammar.specs.Lists.{Before, Before.Start, Nest, ListState, ListState.WantTerm, ListState.HaveName, Turn, level, behind_terms, put_term}
+use Rattle.rule_grammar.specs.Machine.{ChainHead, ChainHead.FirstPart, TermsHead, Stack, Where', OrHead, AndHead.FirstNegation, NotHead, NotHead.NoBang, CompareHead, SumHead, ProductHead, ProductHead.FirstUnit, CompareHead.FirstSum, AtomPlace, OperandPlace, HeadPlace, State, State.InHead, State.InAtom, State.InOperand, State.WantPart, State.WantOpen, State.AtomName, State.HaveRound, State.WantNegation, State.WantUnit, State.UnitName, State.WantHeadTerm, State.HeadWord}
+use Rattle.rule_grammar.specs.Machine.{Step, put, put_head, depth, where_depth, or_depth, not_depth, compare_depth, sum_depth, product_depth, have_unit, over_negation, first_all, first_unit, behind, behind_chain, behind_condition, behind_all, behind_negation, behind_comparison, behind_all_products, behind_product, behind_unit, behind_head_terms, reads_nothing, reads_wanted, reads_variable, in_head, in_atom, in_operand, step, onward, run}
+use Rattle.rule_parser.specs.declared.faults.Stop.{Stop}
+use Rattle.rule_parser.specs.declared.faults.Stop.TheVariants as stop
+use Rattle.rule_parser.specs.declared.ledger.Ledger.{Ledger}
+use Rattle.rule_parser.specs.declared.terms.Kind.{Kind}
+use Rattle.rule_parser.specs.declared.terms.Kind.TheVariants.{Ground, Operand, Argument}
+
+-- what a ledger has counted
+abbrev pub counted : Ledger → Counted
+counted l = record { parts = l.parts; names = l.names.items }
+
+-- no limit of a rule is passed
+pub record Fine (g : Counted) : Type 0 where
+  pub parts : g.parts ≤ 256
+  pub names : length g.names ≤ 64
+
+abbrev pub with_variable : Counted → List ℕ → Counted
+with_variable g name = record { parts = g.parts; names = with_name g.names name }
+
+abbrev pub with_part : Counted → Counted
+with_part g = record { parts = g.parts + 1; names = g.names }
+
+-- names at the end of a list
+pub record Extends (xs ys : List (List ℕ)) : Type 0 where
+  pub more : List (List ℕ)
+  pub same : ys ≡ xs ++ more
+
+-- a run stops with this fault, unless memory ran out
+abbrev pub Fails : Stop → Result Statements Fault → Type 0
+Fails stop.Memory r = Unit {0}
+Fails (stop.Fault f) r = r ≡ Err f
+
+-- on with the tokens that are left, where the first is met by `b`
+abbrev pub resume : (Lexeme → Step) → List Lexeme → Counted → Result Statements Fault
+resume b [] g = Err (fault.Syntax 0)
+resume b (x ∷ xs) g = onward (run xs) (x ∷ xs) g x (b x)
+
+-- a kind of tree: the contexts in which one can stand, how deep inside of brackets they are, the state that wants one, and how
+-- a token behind it is met
+pub record Level (C T : Type 0) : Type 0 where
+  pub depth : C → ℕ
+  pub state : C → State
+  pub behind : C → T → Lexeme → Step
+
+-- under every context at a depth the machine goes on with ts as it goes on behind the tree with rest
+abbrev pub Runs : {C T : Type 0} → Level C T → List Lexeme → ℕ → Counted → T → Counted → List Lexeme → Type 0
+Runs {C} L ts d g tree g' rest = (c : C) → L.depth c ≡ d → run ts g (L.state c) ≡ resume (L.behind c tree) rest g'
+
+-- a tree with this value was read, and rest is left; names of variables came to the counted ones at their end
+pub record Read {C T V : Type 0} (L : Level C T) (value : List (List ℕ) → T → V) (ts : List Lexeme) (d : ℕ) (g g' : Counted) (v : V) (rest : List Lexeme) : Type 0 where
+  pub tree : T
+  pub says : (names : List (List ℕ)) → Extends g'.names names → value names tree ≡ v
+  pub grows : Extends g.names g'.names
+  pub fine : Fine g'
+  pub shorter : length rest < length ts
+  pub runs : Runs L ts d g tree g' rest
+
+-- it is read, or the machine stops with this fault under every context
+abbrev pub Answer : {C T V R : Type 0} → Level C T → (List (List ℕ) → T → V) → (R → V) → List Lexeme → ℕ → Counted → Counted → Result (R × Bor (List Lexeme)) Stop → Type 0
+Answer L value plain ts d g g' (Ok x) = Read L value ts d g g' (plain x.0) x.1.now
+Answer {C} L value plain ts d g g' (Err e) = (c : C) → L.depth c ≡ d → Fails e (run ts g (L.state c))
+
+abbrev pub same : {A : Type 0} → A → A
+same a = a
+
+-- Lists of arguments, by what may stand for a term: nothing, a variable, a variable or `_`.
+
+abbrev pub Leaf : Kind → Type 0
+Leaf Ground = ⊥
+Leaf Operand = List ℕ
+Leaf Argument = Wanted
+
+abbrev pub Place : Kind → Type 0
+Place Ground = HeadPlace
+Place Operand = OperandPlace
+Place Argument = AtomPlace
+
+abbrev pub base : Kind → ℕ
+base Ground = 2
+base Operand = 2
+base Argument = 1
+
+abbrev pub leaf_read : (k : Kind) → Lexeme → Option (Leaf k)
+leaf_read Ground x = reads_nothing x
+leaf_read Operand x = reads_variable x
+leaf_read Argument x = reads_wanted x
+
+abbrev pub in_list : (k : Kind) → ListState (Leaf k) (Place k) → State
+in_list Ground s = InHead s
+in_list Operand s = InOperand s
+in_list Argument s = InAtom s
+
+abbrev pub turn_of : (k : Kind) → Turn (Leaf k) (Place k) → Step
+turn_of Ground s = in_head s
+turn_of Operand s = in_operand s
+turn_of Argument s = in_atom s
+
+abbrev pub leaf_value : (k : Kind) → List (List ℕ) → Leaf k → Pat
+leaf_value Ground names w = never_value w
+leaf_value Operand names w = variable names w
+leaf_value Argument names w = wanted_value names w
+
+abbrev pub term_of : (k : Kind) → List (List ℕ) → Term (Leaf k) → Pat
+term_of k names a = term_value (leaf_value k names) a
+
+abbrev pub terms_of : (k : Kind) → List (List ℕ) → Arguments (Leaf k) → List Pat
+terms_of k names as' = arguments_value (leaf_value k names) as'
+
+abbrev pub Within : Kind → Type 0
+Within k = Nest (Leaf k) (Place k) × Before (Leaf k)
+
+abbrev pub term_level : (k : Kind) → Level (Within k) (Term (Leaf k))
+term_level k = record {
+    depth = λ c. level (base k) c.0;
+    state = λ c. in_list k (WantTerm c.0 c.1);
+    behind = λ c a x. turn_of k (behind_terms c.0 (put_term c.1 a) x) }
+
+-- behind a name that stands first
+abbrev pub named_level : (k : Kind) → List ℕ → Level (Within k) (Term (Leaf k))
+named_level k name = record {
+    depth = λ c. level (base k) c.0;
+    state = λ c. in_list k (HaveName c.0 c.1 name);
+    behind = λ c a x. turn_of k (behind_terms c.0 (put_term c.1 a) x) }
+
+-- arguments without the bracket that closes their list
+abbrev pub terms_level : (k : Kind) → Level (Nest (Leaf k) (Place k)) (Arguments (Leaf k))
+terms_level k = record {
+    depth = λ n. level (base k) n;
+    state = λ n. in_list k (WantTerm n Start);
+    behind = λ n as' x. turn_of k (behind_terms n as' x) }
+
+-- arguments were read, and the bracket behind them
+pub record ListRead (k : Kind) (ts : List Lexeme) (d : ℕ) (g g' : Counted) (vs : List Pat) (rest : List Lexeme) : Type 0 where
+  pub read : (closed : List Lexeme) × (closed ≡ t.Close ∷ rest) × Read (terms_level k) (terms_of k) ts d g g' vs closed
+
+abbrev pub ListAnswer : (k : Kind) → List Lexeme → ℕ → Counted → Counted → Result (List Pat × Bor (List Lexeme)) Stop → Type 0
+ListAnswer k ts d g g' (Ok x) = ListRead k ts d g g' x.0 x.1.now
+ListAnswer k ts d g g' (Err e) = (n : Nest (Leaf k) (Place k)) → level (base k) n ≡ d → Fails e (run ts g (in_list k (WantTerm n Start)))
+
+-- Terms of one word but for a name.
+
+abbrev pub word_tokens : Literal → List Lexeme → List Lexeme
+word_tokens (Digits n) rest = t.Number n ∷ rest
+word_tokens (Minus n) rest = t.Minus ∷ t.Number n ∷ rest
+word_tokens Least rest = t.Minus ∷ t.Huge ∷ rest
+word_tokens (Symbol name) rest = t.Name name ∷ rest
+word_tokens (Quoted text) rest = t.Text text ∷ rest
+
+abbrev pub IsNoSymbol : Literal → Type 0
+IsNoSymbol (Symbol name) = ⊥
+IsNoSymbol l = Unit {0}
+
+abbrev pub LacksWord : List Lexeme → Type 0
+LacksWord (t.Number n ∷ xs) = ⊥
+LacksWord (t.Minus ∷ xs) = ⊥
+LacksWord (t.Text text ∷ xs) = ⊥
+LacksWord xs = Unit {0}
+
+abbrev pub LacksDigits : List Lexeme → Type 0
+LacksDigits (t.Number n ∷ xs) = ⊥
+LacksDigits (t.Huge ∷ xs) = ⊥
+LacksDigits xs = Unit {0}
+
+pub record WordRead (ts : List Lexeme) (v : Pat) (rest : List Lexeme) : Type 0 where
+  pub literal : Literal
+  pub no_symbol : IsNoSymbol literal
+  pub tokens : ts ≡ word_tokens literal rest
+  pub says : literal_value literal ≡ v
+
+pub record WordFails (ts : List Lexeme) (f : Fault) : Type 0 where
+  pub rest : List Lexeme
+  pub tokens : ts ≡ t.Minus ∷ rest
+  pub lacks : LacksDigits rest
+  pub place : f ≡ fault.Syntax (length rest)
+
+abbrev pub WordAnswer : List Lexeme → Result (Option (Pat × Bor (List Lexeme))) Stop → Type 0
+WordAnswer ts (Ok (Some x)) = WordRead ts x.0 x.1.now
+WordAnswer ts (Ok None) = LacksWord ts
+WordAnswer ts (Err stop.Memory) = Unit {0}
+WordAnswer ts (Err (stop.Fault f)) = WordFails ts f
+
+-- Variables.
+
+abbrev pub SlotStops : List Lexeme → Counted → List ℕ → Stop → Type 0
+SlotStops ts g name stop.Memory = Unit {0}
+SlotStops ts g name (stop.Fault f) = (f ≡ fault.Limit which.Variables (length ts)) × (64 < length (with_name g.names name))
+
+-- Conditions.
+
+abbrev pub unit_level : Level ProductHead Unit'
+unit_level = record { depth = product_depth; state = WantUnit; behind = λ h u x. behind_unit (have_unit h u) x }
+
+abbrev pub named_unit_level : List ℕ → Level ProductHead Unit'
+named_unit_level name = record { depth = product_depth; state = λ h. UnitName h name; behind = λ h u x. behind_unit (have_unit h u) x }
+
+abbrev pub product_level : Level SumHead Product
+product_level = record { depth = sum_depth; state = λ h. WantUnit (FirstUnit h); behind = behind_product }
+
+abbrev pub sum_level : Level CompareHead Sum
+sum_level = record { depth = compare_depth; state = λ c. WantUnit (first_unit c); behind = λ c s x. behind_all_products (c, s) x }
+
+abbrev pub comparison_level : Level NotHead Comparison
+comparison_level = record { depth = not_depth; state = λ n. WantUnit (first_unit (FirstSum n)); behind = behind_comparison }
+
+abbrev pub negation_level : Level NotHead Negation
+negation_level = record { depth = not_depth; state = WantNegation; behind = λ h n x. behind_negation (over_negation h n).0 (over_negation h n).1 x }
+
+abbrev pub all_level : Level OrHead All
+all_level = record { depth = or_depth; state = λ o. WantNegation (NoBang (FirstNegation o)); behind = behind_all }
+
+abbrev pub condition_level : Level Where' Condition
+condition_level = record { depth = where_depth; state = λ w. WantNegation (first_all w); behind = behind_condition }
+
+-- Patterns.
+
+abbrev pub PartPlace : Type 0
+PartPlace = ChainHead × Stack
+
+abbrev pub part_level : Level PartPlace Part
+part_level = record { depth = λ c. depth c.1; state = λ c. WantPart c.0 c.1; behind = λ c p x. behind_chain c.1 (put c.0 p) x }
+
+abbrev pub named_part_level : List ℕ → Level PartPlace Part
+named_part_level name = record { depth = λ c. depth c.1; state = λ c. AtomName c.0 c.1 name; behind = λ c p x. behind_chain c.1 (put c.0 p) x }
+
+abbrev pub without_level : Level PartPlace Part
+without_level = record { depth = λ c. depth c.1; state = λ c. WantOpen c.0 c.1; behind = λ c p x. behind_chain c.1 (put c.0 p) x }
+
+abbrev pub round_level : Level PartPlace Round
+round_level = record { depth = λ c. depth c.1; state = λ c. WantPart c.0 c.1; behind = λ c r x. step (HaveRound c.0 r c.1) x }
+
+abbrev pub chain_level : Level Stack Chain
+chain_level = record { depth = depth; state = WantPart FirstPart; behind = behind_chain }
+
+abbrev pub tree_level : Level Stack Tree
+tree_level = record { depth = depth; state = WantPart FirstPart; behind = behind }
+
+-- Terms of heads.
+
+abbrev pub HeadTermPlace : Type 0
+HeadTermPlace = Statements × List ℕ × TermsHead
+
+abbrev pub head_term_level : Level HeadTermPlace HeadTerm
+head_term_level = record { depth = λ c. 0; state = λ c. WantHeadTerm c.0 c.1 c.2; behind = λ c a x. behind_head_terms c.0 c.1 (put_head c.2 a) x }
+
+abbrev pub named_head_term_level : List ℕ → Level HeadTermPlace HeadTerm
+named_head_term_level w = record { depth = λ c. 0; state = λ c. HeadWord c.0 c.1 c.2 w; behind = λ c a x. behind_head_terms c.0 c.1 (put_head c.2 a) x }
