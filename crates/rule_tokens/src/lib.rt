@@ -10,3 +10,6 @@ mod writing;
 pub use lexemes::{Lexeme, Natural};
 pub use lexing::{Lexed, lex, one_lexing};
 pub use writing::written_is_read;
+
+#[cfg(test)]
+mod tests;
