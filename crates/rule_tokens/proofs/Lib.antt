@@ -2,3 +2,10 @@ pub mod Chains
 pub mod Unescaping
 pub mod TextPlaces
 pub mod OneLexing
+pub mod Stands
+pub mod WrittenWords
+pub mod WrittenNumbers
+pub mod WrittenTexts
+pub mod WrittenSigns
+pub mod WrittenTokens
+pub mod RoundTrip

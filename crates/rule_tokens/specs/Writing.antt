@@ -72,11 +72,12 @@ kind_of made.Limits = kinds.Mark marks.Limits
 kind_of made.Length = kinds.Mark marks.Length
 kind_of made.End = kinds.Mark marks.End
 
--- the bytes of a token that has one spelling
+-- the bytes of a kind of tokens that has one spelling, and none of another kind
 abbrev pub fixed_bytes : TokenKind → List ℕ
 fixed_bytes (kinds.Word w) = word_bytes w
 fixed_bytes (kinds.Mark m) = mark_bytes m
-fixed_bytes kind = codes "_"
+fixed_bytes kinds.Wild = codes "_"
+fixed_bytes kind = []
 
 -- how a lexeme is written: a text with its escapes, a number in decimal
 abbrev pub spelling : Lexeme → List ℕ

@@ -5,6 +5,11 @@ mod lexemes;
 mod lexing;
 mod tables;
 mod texts;
+mod writing;
 
 pub use lexemes::{Lexeme, Natural};
 pub use lexing::{Lexed, lex, one_lexing};
+pub use writing::written_is_read;
+
+#[cfg(test)]
+mod tests;
