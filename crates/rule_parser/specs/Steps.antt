@@ -3,6 +3,7 @@ use Rattle.std.specs.Prelude.{◌≡◌, ℕ, ◌+◌, ◌<◌, ◌≤◌, Bool,
 use Rattle.std.specs.List.{list_any}
 use Rattle.std.specs.Str.{bytes_eq}
 use Rattle.std.specs.Borrow.{Bor}
+use Rattle.std.specs.declared.vec.Vec.{Vec}
 use Rattle.ev_term.specs.declared.terms.Pat.{Pat}
 use Rattle.rule_tokens.specs.declared.lexemes.Lexeme.{Lexeme}
 use Rattle.rule_tokens.specs.declared.lexemes.Lexeme.TheVariants as t
@@ -83,10 +84,10 @@ same a = a
 
 -- Lists of arguments, by what may stand for a term: nothing, a variable, a variable or `_`.
 
-abbrev pub Leaf : Kind → Type 0
-Leaf Ground = ⊥
-Leaf Operand = List ℕ
-Leaf Argument = Wanted
+abbrev pub Leaves : Kind → Type 0
+Leaves Ground = ⊥
+Leaves Operand = List ℕ
+Leaves Argument = Wanted
 
 abbrev pub Place : Kind → Type 0
 Place Ground = HeadPlace
@@ -98,50 +99,50 @@ base Ground = 2
 base Operand = 2
 base Argument = 1
 
-abbrev pub leaf_read : (k : Kind) → Lexeme → Option (Leaf k)
+abbrev pub leaf_read : (k : Kind) → Lexeme → Option (Leaves k)
 leaf_read Ground x = reads_nothing x
 leaf_read Operand x = reads_variable x
 leaf_read Argument x = reads_wanted x
 
-abbrev pub in_list : (k : Kind) → ListState (Leaf k) (Place k) → State
+abbrev pub in_list : (k : Kind) → ListState (Leaves k) (Place k) → State
 in_list Ground s = InHead s
 in_list Operand s = InOperand s
 in_list Argument s = InAtom s
 
-abbrev pub turn_of : (k : Kind) → Turn (Leaf k) (Place k) → Step
+abbrev pub turn_of : (k : Kind) → Turn (Leaves k) (Place k) → Step
 turn_of Ground s = in_head s
 turn_of Operand s = in_operand s
 turn_of Argument s = in_atom s
 
-abbrev pub leaf_value : (k : Kind) → List (List ℕ) → Leaf k → Pat
+abbrev pub leaf_value : (k : Kind) → List (List ℕ) → Leaves k → Pat
 leaf_value Ground names w = never_value w
 leaf_value Operand names w = variable names w
 leaf_value Argument names w = wanted_value names w
 
-abbrev pub term_of : (k : Kind) → List (List ℕ) → Term (Leaf k) → Pat
+abbrev pub term_of : (k : Kind) → List (List ℕ) → Term (Leaves k) → Pat
 term_of k names a = term_value (leaf_value k names) a
 
-abbrev pub terms_of : (k : Kind) → List (List ℕ) → Arguments (Leaf k) → List Pat
+abbrev pub terms_of : (k : Kind) → List (List ℕ) → Arguments (Leaves k) → List Pat
 terms_of k names as' = arguments_value (leaf_value k names) as'
 
 abbrev pub Within : Kind → Type 0
-Within k = Nest (Leaf k) (Place k) × Before (Leaf k)
+Within k = Nest (Leaves k) (Place k) × Before (Leaves k)
 
-abbrev pub term_level : (k : Kind) → Level (Within k) (Term (Leaf k))
+abbrev pub term_level : (k : Kind) → Level (Within k) (Term (Leaves k))
 term_level k = record {
     depth = λ c. level (base k) c.0;
     state = λ c. in_list k (WantTerm c.0 c.1);
     behind = λ c a x. turn_of k (behind_terms c.0 (put_term c.1 a) x) }
 
 -- behind a name that stands first
-abbrev pub named_level : (k : Kind) → List ℕ → Level (Within k) (Term (Leaf k))
+abbrev pub named_level : (k : Kind) → List ℕ → Level (Within k) (Term (Leaves k))
 named_level k name = record {
     depth = λ c. level (base k) c.0;
     state = λ c. in_list k (HaveName c.0 c.1 name);
     behind = λ c a x. turn_of k (behind_terms c.0 (put_term c.1 a) x) }
 
 -- arguments without the bracket that closes their list
-abbrev pub terms_level : (k : Kind) → Level (Nest (Leaf k) (Place k)) (Arguments (Leaf k))
+abbrev pub terms_level : (k : Kind) → Level (Nest (Leaves k) (Place k)) (Arguments (Leaves k))
 terms_level k = record {
     depth = λ n. level (base k) n;
     state = λ n. in_list k (WantTerm n Start);
@@ -149,11 +150,13 @@ terms_level k = record {
 
 -- arguments were read, and the bracket behind them
 pub record ListRead (k : Kind) (ts : List Lexeme) (d : ℕ) (g g' : Counted) (vs : List Pat) (rest : List Lexeme) : Type 0 where
-  pub read : (closed : List Lexeme) × (closed ≡ t.Close ∷ rest) × Read (terms_level k) (terms_of k) ts d g g' vs closed
+  pub closed : List Lexeme
+  pub close : closed ≡ t.Close ∷ rest
+  pub read : Read (terms_level k) (terms_of k) ts d g g' vs closed
 
-abbrev pub ListAnswer : (k : Kind) → List Lexeme → ℕ → Counted → Counted → Result (List Pat × Bor (List Lexeme)) Stop → Type 0
-ListAnswer k ts d g g' (Ok x) = ListRead k ts d g g' x.0 x.1.now
-ListAnswer k ts d g g' (Err e) = (n : Nest (Leaf k) (Place k)) → level (base k) n ≡ d → Fails e (run ts g (in_list k (WantTerm n Start)))
+abbrev pub ListAnswer : {Z : Type 0} (k : Kind) → List Lexeme → ℕ → Counted → Counted → Result (Vec Pat Z × Bor (List Lexeme)) Stop → Type 0
+ListAnswer k ts d g g' (Ok x) = ListRead k ts d g g' x.0.items x.1.now
+ListAnswer k ts d g g' (Err e) = (n : Nest (Leaves k) (Place k)) → level (base k) n ≡ d → Fails e (run ts g (in_list k (WantTerm n Start)))
 
 -- Terms of one word but for a name.
 
@@ -196,6 +199,33 @@ WordAnswer ts (Ok (Some x)) = WordRead ts x.0 x.1.now
 WordAnswer ts (Ok None) = LacksWord ts
 WordAnswer ts (Err stop.Memory) = Unit {0}
 WordAnswer ts (Err (stop.Fault f)) = WordFails ts f
+
+abbrev pub NegativeAnswer : List Lexeme → Result (Pat × Bor (List Lexeme)) Stop → Type 0
+NegativeAnswer ts (Ok x) = WordRead (t.Minus ∷ ts) x.0 x.1.now
+NegativeAnswer ts (Err stop.Memory) = Unit {0}
+NegativeAnswer ts (Err (stop.Fault f)) = (f ≡ fault.Syntax (length ts)) × LacksDigits ts
+
+-- What stands for a term and is none.
+
+pub record LeafRead (k : Kind) (x : Lexeme) (g g' : Counted) (v : Pat) : Type 0 where
+  pub leaf : Leaves k
+  pub reads : leaf_read k x ≡ Some leaf
+  pub says : (names : List (List ℕ)) → Extends g'.names names → leaf_value k names leaf ≡ v
+  pub grows : Extends g.names g'.names
+  pub counts : count g (Quiet, x) ≡ g'
+  pub fine : Fine g'
+
+pub record LeafFails (ts : List Lexeme) (k : Kind) (x : Lexeme) (g : Counted) (f : Fault) : Type 0 where
+  pub leaf : Leaves k
+  pub reads : leaf_read k x ≡ Some leaf
+  pub place : f ≡ fault.Limit which.Variables (length ts)
+  pub passes : passed (count g (Quiet, x)) Quiet ≡ Some which.Variables
+
+abbrev pub LeafAnswer : List Lexeme → Lexeme → Kind → Counted → Counted → Result (Option Pat) Stop → Type 0
+LeafAnswer ts x k g g' (Ok (Some v)) = LeafRead k x g g' v
+LeafAnswer ts x k g g' (Ok None) = leaf_read k x ≡ None
+LeafAnswer ts x k g g' (Err stop.Memory) = Unit {0}
+LeafAnswer ts x k g g' (Err (stop.Fault f)) = LeafFails ts k x g f
 
 -- Variables.
 

@@ -8,5 +8,5 @@ mod terms;
 
 pub use faults::{ParseFault, Stop};
 pub use ledger::{Ledger, add_part, slot_of};
-pub use terms::Kind;
+pub use terms::{Kind, arguments_at, term_at, word_at};
 pub use signs::{sign_of, take_first, skip, syntax, limit, expect, take_joint, take_adding, take_scaling, take_compare, Sign, Joint, Adding, Scaling};
