@@ -13,11 +13,11 @@ use Rattle.rule_grammar.specs.declared.faults.Fault.{Fault}
 use Rattle.rule_grammar.specs.declared.faults.Fault.TheVariants as fault
 use Rattle.rule_grammar.specs.Trees.{Literal, Literal.Digits, Literal.Minus, Literal.Least, Literal.Symbol, Literal.Quoted, Term, Arguments, Wanted, Wanted.Variable, Wanted.Anything, HeadTerm, HeadTerms, Heading, Condition, All, Negation, Comparison, Sum, Product, Unit', Tree, Chain, Part, Round, Statements}
 use Rattle.rule_grammar.specs.Marks.{Role, Counted, count, passed, with_name, with_parts}
-use Rattle.rule_grammar.specs.Marks.{Role.Quiet, Role.Single}
+use Rattle.rule_grammar.specs.Marks.{Role.Quiet, Role.Single, Role.Binary}
 use Rattle.rule_grammar.specs.Values.{slot_of, variable, wanted_value, never_value, literal_value, term_value, arguments_value, head_term_value, head_terms_value, condition_value, all_value, negation_value, comparison_value, sum_value, product_value, unit_value, tree_value, chain_value, part_value, round_value}
 use Rattle.rule_grammar.specs.Lists.{Before, Before.Start, Nest, ListState, ListState.WantTerm, ListState.HaveName, Turn, level, behind_terms, put_term}
 use Rattle.rule_grammar.specs.Machine.{ChainHead, ChainHead.FirstPart, TermsHead, Stack, Where', OrHead, AndHead.FirstNegation, NotHead, NotHead.NoBang, CompareHead, SumHead, ProductHead, ProductHead.FirstUnit, CompareHead.FirstSum, AtomPlace, OperandPlace, HeadPlace, State, State.InHead, State.InAtom, State.InOperand, State.WantPart, State.WantOpen, State.AtomName, State.HaveRound, State.WantNegation, State.WantUnit, State.UnitName, State.WantHeadTerm, State.HeadWord}
-use Rattle.rule_grammar.specs.Machine.{Step, put, put_head, depth, where_depth, or_depth, not_depth, compare_depth, sum_depth, product_depth, have_unit, over_negation, first_all, first_unit, behind, behind_chain, behind_condition, behind_all, behind_negation, behind_comparison, behind_all_products, behind_product, behind_unit, behind_head_terms, reads_nothing, reads_wanted, reads_variable, in_head, in_atom, in_operand, step, onward, run}
+use Rattle.rule_grammar.specs.Machine.{Step, to, put, put_head, depth, where_depth, or_depth, not_depth, compare_depth, sum_depth, product_depth, have_unit, over_negation, first_all, first_unit, behind, behind_chain, behind_condition, behind_all, behind_negation, behind_comparison, behind_all_products, behind_product, behind_unit, behind_head_terms, reads_nothing, reads_wanted, reads_variable, in_head, in_atom, in_operand, step, onward, run}
 use Rattle.rule_parser.specs.declared.faults.Stop.{Stop}
 use Rattle.rule_parser.specs.declared.faults.Stop.TheVariants as stop
 use Rattle.rule_parser.specs.declared.ledger.Ledger.{Ledger}
@@ -79,8 +79,19 @@ abbrev pub Answer : {C T V R : Type 0} → Level C T → (List (List ℕ) → T 
 Answer L value plain ts d g g' (Ok x) = Read L value ts d g g' (plain x.0) x.1.now
 Answer {C} L value plain ts d g g' (Err e) = (c : C) → L.depth c ≡ d → Fails e (run ts g (L.state c))
 
+-- the same, where besides some token doesn't stand behind what was read
+abbrev pub AnswerTo : {C T V R : Type 0} → Level C T → (List (List ℕ) → T → V) → (R → V) → (List Lexeme → Type 0) → List Lexeme → ℕ → Counted → Counted → Result (R × Bor (List Lexeme)) Stop → Type 0
+AnswerTo L value plain Over ts d g g' (Ok x) = Read L value ts d g g' (plain x.0) x.1.now × Over x.1.now
+AnswerTo {C} L value plain Over ts d g g' (Err e) = (c : C) → L.depth c ≡ d → Fails e (run ts g (L.state c))
+
 abbrev pub same : {A : Type 0} → A → A
 same a = a
+
+-- a token leads from behind a tree to where another one is wanted
+pub record Link {C T C' T' : Type 0} (L : Level C T) (E : Level C' T') (x : Lexeme) : Type 0 where
+  pub next : C → T → C'
+  pub goes : (c : C) (tree : T) → L.behind c tree x ≡ to Binary (E.state (next c tree))
+  pub deep : (c : C) (tree : T) → E.depth (next c tree) ≡ L.depth c
 
 -- Lists of arguments, by what may stand for a term: nothing, a variable, a variable or `_`.
 
@@ -234,6 +245,12 @@ SlotStops ts g name stop.Memory = Unit {0}
 SlotStops ts g name (stop.Fault f) = (f ≡ fault.Limit which.Variables (length ts)) × (64 < length (with_name g.names name))
 
 -- Conditions.
+
+abbrev pub begins_word : Lexeme → Bool
+begins_word (t.Number n) = true
+begins_word (t.Text text) = true
+begins_word t.Minus = true
+begins_word x = false
 
 abbrev pub unit_level : Level ProductHead Unit'
 unit_level = record { depth = product_depth; state = WantUnit; behind = λ h u x. behind_unit (have_unit h u) x }
