@@ -1,3 +1,4 @@
 pub mod Names
 pub mod TermRuns
 pub mod CondRuns
+pub mod Meanings
