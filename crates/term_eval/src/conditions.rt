@@ -1,7 +1,7 @@
 // The value of a condition under a binding.
-ghost use Rattle.std.specs.Prelude.{◌≡◌, IsTrue, Some};
+ghost use Rattle.std.specs.Prelude.{◌≡◌};
 ghost use Rattle.rule_ast.specs.Plain.{plain_cond};
-ghost use Rattle.term_eval.specs.Values.{value, holds, binds, calculated, compared, and_also, or_else, negated};
+ghost use Rattle.term_eval.specs.Values.{value, holds, calculated, compared, and_also, or_else, negated};
 ghost use Rattle.term_eval.specs.Operands.{plain_value, plain_answer};
 
 use crate::numbers::calculate;
@@ -47,7 +47,6 @@ fn compared<'a>(cmp: Cmp, x: &Value<'a>, y: &Value<'a>, b: &Binding) -> Option<V
 /// The value of a condition, or `None` where it is undefined: an operation is undefined where an operand is undefined or
 /// not of its kind, and arithmetic where its result isn't an i64.
 pub fn value_of<'a>(cond: &'a Cond, b: &'a Binding) -> Option<Value<'a>>
-    requires { IsTrue (binds b.now (plain_cond cond.now)) }
     ensures { plain_answer b.now result ≡ value (plain_cond cond.now) b.now }
 {
     match cond {
@@ -84,7 +83,6 @@ pub fn value_of<'a>(cond: &'a Cond, b: &'a Binding) -> Option<Value<'a>>
 
 /// Whether the value of a condition is the truth value true.
 pub fn holds(cond: &Cond, b: &Binding) -> bool
-    requires { IsTrue (binds b.now (plain_cond cond.now)) }
     ensures { result ≡ holds (plain_cond cond.now) b.now }
 {
     match value_of(cond, b) {

@@ -8,3 +8,6 @@ mod values;
 
 pub use conditions::{holds, value_of};
 pub use values::Value;
+
+#[cfg(test)]
+mod tests;
