@@ -7,6 +7,7 @@ use Rattle.ev_term.specs.declared.terms.Term.{Term, out-Term}
 use Rattle.ev_term.specs.declared.terms.Term.TheOpen.{Term-F}
 use Rattle.ev_term.specs.declared.terms.Term.TheOpen.Term-F.{Num, Sym, Text, Comp}
 use Rattle.ev_term.specs.declared.terms.Term.TheVariants as made
+use Rattle.ev_term.specs.declared.terms.Pat.{Pat}
 use Rattle.ev_bind.specs.Bindings.{Pairs, value_at}
 use Rattle.ev_bind.specs.Matching.{instance}
 use Rattle.ev_bind.specs.Fits.{same}
@@ -126,9 +127,15 @@ is_true (Some (Ground t)) = false
 abbrev pub holds : PlainCond → Pairs → Bool
 holds c b = is_true (value c b)
 
+-- ---- the conditions that rules have
+
+-- the binding has the variables of the argument, which has no `_`
+abbrev pub binds_argument : Pairs → Pat → Bool
+binds_argument b p = passes (λ slot. is_some (value_at b slot)) false p
+
 -- the binding has the variables of the condition, which has no `_`
 abbrev pub binds : Pairs → PlainCond → Bool
-binds b (Value p) = passes (λ slot. is_some (value_at b slot)) false p
+binds b (Value p) = binds_argument b p
 binds b (Calculate calc l r) = binds b l && binds b r
 binds b (Compare cmp l r) = binds b l && binds b r
 binds b (AndAlso l r) = binds b l && binds b r
