@@ -45,7 +45,8 @@ fn compared<'a>(cmp: Cmp, x: &Value<'a>, y: &Value<'a>, b: &Binding) -> Option<V
 }
 
 /// The value of a condition, or `None` where it is undefined: an operation is undefined where an operand is undefined or
-/// not of its kind, and arithmetic where its result isn't an i64.
+/// not of its kind, and arithmetic where its result isn't an i64. It is meant for a binding of the condition's variables
+/// and a condition without `_`: a variable that the binding doesn't hold, and `_`, are 0.
 pub fn value_of<'a>(cond: &'a Cond, b: &'a Binding) -> Option<Value<'a>>
     ensures { plain_answer b.now result ≡ value (plain_cond cond.now) b.now }
 {
@@ -81,7 +82,7 @@ pub fn value_of<'a>(cond: &'a Cond, b: &'a Binding) -> Option<Value<'a>>
     }
 }
 
-/// Whether the value of a condition is the truth value true.
+/// Whether the value of a condition is the truth value true, as `value_of` gives it.
 pub fn holds(cond: &Cond, b: &Binding) -> bool
     ensures { result ≡ holds (plain_cond cond.now) b.now }
 {

@@ -39,9 +39,9 @@ fn is_zero(term: &Term) -> bool
     }
 }
 
+// Whether an argument is the term.
 #[cycle(is_term)]
 #[tactic(auto, using(crate::proofs::Equal::leaves, crate::proofs::Equal::compound_term))]
-// Whether an argument is the term.
 fn is_term(pat: &Pat, term: &Term, b: &Binding) -> bool
     ensures { result ≡ same (instance pat.now b.now) term.now }
 {
@@ -61,9 +61,9 @@ fn is_term(pat: &Pat, term: &Term, b: &Binding) -> bool
     }
 }
 
+// Argument by argument.
 #[cycle(is_term)]
 #[tactic(auto, using(crate::proofs::Places::other_number, crate::proofs::Places::at_place, crate::proofs::Places::at_end))]
-// Argument by argument.
 fn are_terms(pats: &[Pat], terms: &[Term], b: &Binding) -> bool
     ensures { result ≡ each_with (λ p t. same (instance p b.now) t) pats.now terms.now }
 {
@@ -78,8 +78,8 @@ fn are_terms(pats: &[Pat], terms: &[Term], b: &Binding) -> bool
     true
 }
 
-#[tactic(auto, using(crate::proofs::Equal::leaves))]
 // Whether an argument is the value of a variable.
+#[tactic(auto, using(crate::proofs::Equal::leaves))]
 fn is_value(slot: Slot, pat: &Pat, b: &Binding) -> bool
     ensures { result ≡ same (instance (pat_made.Var slot) b.now) (instance pat.now b.now) }
 {
@@ -89,9 +89,9 @@ fn is_value(slot: Slot, pat: &Pat, b: &Binding) -> bool
     }
 }
 
+// Whether two arguments are one term.
 #[cycle(same_under)]
 #[tactic(auto, using(crate::proofs::Equal::leaves, crate::proofs::Equal::others, crate::proofs::Equal::compounds))]
-// Whether two arguments are one term.
 pub(crate) fn same_under(p: &Pat, q: &Pat, b: &Binding) -> bool
     ensures { result ≡ same (instance p.now b.now) (instance q.now b.now) }
 {
@@ -126,9 +126,9 @@ pub(crate) fn same_under(p: &Pat, q: &Pat, b: &Binding) -> bool
     }
 }
 
+// Argument by argument.
 #[cycle(same_under)]
 #[tactic(auto, using(crate::proofs::Places::other_number, crate::proofs::Places::at_place, crate::proofs::Places::at_end))]
-// Argument by argument.
 fn all_same(ps: &[Pat], qs: &[Pat], b: &Binding) -> bool
     ensures { result ≡ each_with (λ p q. same (instance p b.now) (instance q b.now)) ps.now qs.now }
 {
@@ -143,8 +143,8 @@ fn all_same(ps: &[Pat], qs: &[Pat], b: &Binding) -> bool
     true
 }
 
-#[tactic(auto, using(crate::proofs::Equal::same_nums, crate::proofs::Equal::number_turned))]
 // Whether two values are one term; none where one is a truth value.
+#[tactic(auto, using(crate::proofs::Equal::same_nums, crate::proofs::Equal::number_turned))]
 pub(crate) fn same_terms(x: &Value, y: &Value, b: &Binding) -> Option<bool>
     ensures { result ≡ option_map (λ p. same p.0 p.1) (terms (plain_value b.now x.now) (plain_value b.now y.now)) }
 {

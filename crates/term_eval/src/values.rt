@@ -29,8 +29,8 @@ pub(crate) fn term_number(term: &Term) -> Option<i64>
     }
 }
 
-#[tactic(auto, using(ev_bind::specs::Matching::outs, ev_bind::specs::Matching::instances))]
 // The number that an argument is. A variable that the binding doesn't hold, and `_`, are 0.
+#[tactic(auto, using(ev_bind::specs::Matching::outs, ev_bind::specs::Matching::instances))]
 pub(crate) fn argument_number(pat: &Pat, b: &Binding) -> Option<i64>
     ensures { result ≡ number_at (out-Term (instance pat.now b.now)) }
 {
