@@ -125,9 +125,14 @@ items_put : (is : Items) → Puts (items is)
 items_put (OneItem name n) = token (Quiet, t.Name name) tt (token (Quiet, t.Slash) tt (last (HasArity n, t.Number n) tt))
 items_put (MoreItem is name n) = before (items_put is) (token (Lists, t.Comma) tt (token (Quiet, t.Name name) tt (token (Quiet, t.Slash) tt (last (HasArity n, t.Number n) tt))))
 
--- a statement's first token alone tells its number
+abbrev pub IsNoVariable : Lexeme → Type 0
+IsNoVariable (t.Var name) = ⊥
+IsNoVariable x = Unit {0}
+
+-- a statement's first token alone tells its number, and is no variable
 pub record Begins (f : ℕ → List Marked → List Marked) : Type 0 where
   pub first : Lexeme
+  pub no_variable : IsNoVariable first
   pub onward : List Marked → List Marked
   pub puts : Puts onward
   pub same : (n : ℕ) (rest : List Marked) → f n rest ≡ (Starts n, first) ∷ onward rest
@@ -136,11 +141,12 @@ body_puts : (p : Tree) → Puts (λ rest. quiet t.Arrow (tree 0 p (quiet t.End r
 body_puts p = token (Quiet, t.Arrow) tt (before (tree_puts 0 p) (last (Quiet, t.End) tt))
 
 pub statement_begins : (s : Statement) → Begins (λ n rest. statement n s rest)
-statement_begins (Clause (Plainly name) p) = record { first = t.Name name; onward = λ rest. quiet t.Arrow (tree 0 p (quiet t.End rest)); puts = body_puts p; same = λ n rest. refl }
+statement_begins (Clause (Plainly name) p) = record { first = t.Name name; no_variable = tt; onward = λ rest. quiet t.Arrow (tree 0 p (quiet t.End rest)); puts = body_puts p; same = λ n rest. refl }
 statement_begins (Clause (Applied name as') p) = record {
   first = t.Name name;
+  no_variable = tt;
   onward = λ rest. quiet t.Open (head_terms as' (quiet t.Close (quiet t.Arrow (tree 0 p (quiet t.End rest)))));
   puts = token (Quiet, t.Open) tt (before (head_terms_put as') (token (Quiet, t.Close) tt (body_puts p)));
   same = λ n rest. refl;
 }
-statement_begins (Shown is) = record { first = t.Show; onward = λ rest. items is (quiet t.End rest); puts = before (items_put is) (last (Quiet, t.End) tt); same = λ n rest. refl }
+statement_begins (Shown is) = record { first = t.Show; no_variable = tt; onward = λ rest. items is (quiet t.End rest); puts = before (items_put is) (last (Quiet, t.End) tt); same = λ n rest. refl }

@@ -4,3 +4,4 @@ pub mod Walks
 pub mod Reports
 pub mod Fronts
 pub mod Names
+pub mod ShapedLaws

@@ -15,7 +15,7 @@ use Rattle.rule_grammar.specs.Marks.{Role, Marked, Counted, nothing_counted, wit
 use Rattle.rule_grammar.specs.Marks.{Role.Quiet, Role.Starts, Role.Single, Role.Binary, Role.Nests, Role.Deepens, Role.Counts, Role.Lists, Role.Lasts, Role.HasArity}
 use Rattle.rule_grammar.specs.Texts.{IsWithin}
 use Rattle.rule_grammar.specs.Values.{slot_of}
-use Rattle.rule_grammar.proofs.Fronts.{IsInner, AllInner}
+use Rattle.rule_grammar.proofs.Fronts.{IsInner, AllInner, IsNoVariable}
 
 -- ---- limits
 
@@ -26,7 +26,7 @@ within_limit most n w o e = at (nat_lt most n) refl e
     at true q h = cc
     at false q h = (ltb-false most n q, h)
 
-few_names : (g : Counted) (r : Role) → passed g r ≡ None → (length g.names ≤ 64) × (by_role r ≡ None)
+pub few_names : (g : Counted) (r : Role) → passed g r ≡ None → (length g.names ≤ 64) × (by_role r ≡ None)
 few_names g r e = within_limit 64 (length g.names) Variables (by_role r) (within_limit 256 g.parts Parts (over 64 (length g.names) Variables (by_role r)) e).1
 
 -- ---- names
@@ -77,6 +77,10 @@ name_stays names name old h =
 abbrev pub TokenKnown : List (List ℕ) → Lexeme → Type 0
 TokenKnown names (t.Var name) = IsKnown names name
 TokenKnown names x = Unit {0}
+
+pub no_variable_known : (names : List (List ℕ)) (x : Lexeme) → IsNoVariable x → TokenKnown names x
+no_variable_known names (t.Var name) h = absurd h
+no_variable_known names x h = tt
 
 token_differs : (names : List (List ℕ)) (x : Lexeme) → names_differ names ≡ true → names_differ (with_token names x) ≡ true
 token_differs names (t.Var name) h = name_differs names name h
