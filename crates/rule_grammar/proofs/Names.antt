@@ -1,9 +1,9 @@
 -- The names that tokens count: each once, none lost, and within the limit.
-use Rattle.std.proofs.Common.{◌≡◌, ◌≤◌, ◌<◌, ℕ, ◌+◌, ◌^◌, Bool, true, false, cond, not, ◌&&◌, ◌||◌, List, [], ◌∷◌, ◌++◌, length, Option, Some, None, refl, sym, ap, ◌∙◌, subst, arith}
+use Rattle.std.proofs.Common.{◌≡◌, ◌≤◌, ◌<◌, ℕ, ◌+◌, Bool, true, false, cond, not, ◌||◌, List, [], ◌∷◌, ◌++◌, length, Option, Some, None, refl, sym, ap, ◌∙◌, subst, arith}
 use Rattle.std.specs.Prelude.{nat_lt}
 use Rattle.std.specs.List.{list_any}
 use Rattle.std.specs.Str.{bytes_eq}
-use Rattle.std.proofs.lemmas.Bool.{and_parts, and_from, or_parts, or_from, or_left, or_right, or_cases, not-true, not_from_false, cases_Bool, false_from_ne_true, cond_both, ltb-false}
+use Rattle.std.proofs.lemmas.Bool.{and_parts, and_from, or_parts, or_from, or_left, or_right, not-true, not_from_false, false_from_ne_true, cond_both, ltb-false}
 use Rattle.std.proofs.lemmas.List.Folds.{list_any-append}
 use Rattle.std.proofs.lemmas.Slice.Eq.{bytes_eq-Decides}
 use Rattle.rule_tokens.specs.declared.lexemes.Lexeme.{Lexeme}
@@ -135,10 +135,11 @@ token_kept g ms i x h = tt
 
 all_fit : (g : Counted) (ms rest : List Marked) → AllInner ms → IsWithin g (ms ++ rest) → Fits (count_all g ms).names ms
 all_fit g [] rest i w = tt
-all_fit g (m ∷ ms) rest i w =
-    ((few_names (count g m) m.0 w.0).1,
-    token_kept (count g m) ms i.1 m.1 (subst (λ ns. TokenKnown ns m.1) (sym (counted g m i.0)) (token_known g.names m.1)),
-    all_fit (count g m) ms rest i.1 w.1)
+all_fit g (m ∷ ms) rest i w = (
+  (few_names (count g m) m.0 w.0).1,
+  token_kept (count g m) ms i.1 m.1 (subst (λ ns. TokenKnown ns m.1) (sym (counted g m i.0)) (token_known g.names m.1)),
+  all_fit (count g m) ms rest i.1 w.1,
+)
 
 -- the names of a statement's tokens
 pub record IsNamed (names : List (List ℕ)) (ms : List Marked) : Type 0 where

@@ -1,35 +1,34 @@
 -- A text within the limits says rules that are shaped.
-use Rattle.std.proofs.Common.{◌≡◌, ◌≤◌, ◌<◌, ℕ, ℤ, ◌+◌, ◌^◌, Bool, true, false, ◌&&◌, ◌||◌, List, [], ◌∷◌, ◌++◌, length, map, Option, Some, None, refl, sym, ap, ◌∙◌, subst, length-append, arith, suc}
+use Rattle.std.proofs.Common.{◌≡◌, ◌≤◌, ℕ, ℤ, ◌+◌, ◌^◌, Bool, true, false, List, [], ◌∷◌, ◌++◌, length, None, refl, sym, ap, ◌∙◌, subst, length-append, arith, suc}
 use Rattle.std.proofs.lemmas.List.{append-nil}
 use Rattle.std.proofs.lemmas.List.Sums.{sum_by-append}
-use Rattle.std.specs.Prelude.{nat_lt, nat_le}
-use Rattle.std.specs.List.{list_all, sum_by}
+use Rattle.std.specs.Prelude.{nat_lt}
+use Rattle.std.specs.List.{list_all}
 use Rattle.std.proofs.lemmas.Bool.{and_from, or_left, or_right, lt-ltb, le-leb}
 use Rattle.std.proofs.lemmas.List.Folds.{list_all-append, list_all-map}
 use Rattle.ev_term.specs.declared.terms.Pat.{Pat, out-Pat}
 use Rattle.ev_term.specs.declared.terms.Pat.TheOpen.{Pat-F}
-use Rattle.ev_term.specs.declared.terms.Pat.TheOpen.Pat-F.{Var, Any, Num, Sym, Text, Comp}
 use Rattle.ev_term.specs.declared.terms.Pat.TheVariants as pat
-use Rattle.ev_term.specs.declared.terms.Pat.TheFolds.{fold-Pat, fold_out-Pat, map-Pat}
+use Rattle.ev_term.specs.declared.terms.Pat.TheFolds.{fold_out-Pat, map-Pat}
 use Rattle.rule_tokens.specs.declared.lexemes.Lexeme.{Lexeme}
 use Rattle.rule_tokens.specs.declared.lexemes.Lexeme.TheVariants as t
-use Rattle.rule_ast.specs.Trees.{PlainCond, PlainPattern, PlainRule, PlainStatement}
-use Rattle.rule_ast.specs.Shaped.{parts_pass, passes, is_argument, is_operand, is_ground, is_variable, is_head_argument, is_shaped_cond, is_length, is_shaped_atom, is_shaped_pattern, names_differ, is_shaped_head, is_shaped_rule, is_shown_name, is_shaped_statement, IsShaped}
+use Rattle.rule_ast.specs.Trees.{PlainPattern}
+use Rattle.rule_ast.specs.Shaped.{parts_pass, passes, is_variable, is_head_argument, is_shaped_cond, is_length, is_shaped_pattern, names_differ, is_shaped_head, is_shaped_rule, is_shown_name, is_shaped_statement, IsShaped}
 use Rattle.rule_grammar.specs.declared.faults.Which.TheVariants as which
 use Rattle.rule_grammar.specs.Trees.{Literal, Literal.Digits, Literal.Minus, Literal.Least, Literal.Symbol, Literal.Quoted, Term, Term.Leaf, Term.Lone, Term.Compound, Arguments, Arguments.First, Arguments.Next}
-use Rattle.rule_grammar.specs.Trees.{Wanted, Wanted.Variable, Wanted.Anything, HeadTerm, HeadTerm.Leading, HeadTerm.Fixed, HeadTerms, HeadTerms.FirstTerm, HeadTerms.NextTerm, Heading, Heading.Plainly, Heading.Applied}
-use Rattle.rule_grammar.specs.Trees.{Adding, Adding.Added, Adding.Taken, Scaling, Scaling.Times, Scaling.Over, Scaling.Modulo, Joint, Joint.Joined, Joint.Otherwise}
+use Rattle.rule_grammar.specs.Trees.{Wanted.Variable, Wanted.Anything, HeadTerm, HeadTerm.Leading, HeadTerm.Fixed, HeadTerms, HeadTerms.FirstTerm, HeadTerms.NextTerm, Heading, Heading.Plainly, Heading.Applied}
+use Rattle.rule_grammar.specs.Trees.{Joint, Joint.Joined, Joint.Otherwise}
 use Rattle.rule_grammar.specs.Trees.{Condition, Condition.OneAll, Condition.MoreAll, All, All.OneNegation, All.MoreNegation, Negation, Negation.Negated, Negation.Compared, Comparison, Comparison.OneSum, Comparison.TwoSums, Sum, Sum.OneProduct, Sum.MoreProduct, Product, Product.OneUnit, Product.MoreUnit, Unit', Unit'.Value, Unit'.Grouped}
 use Rattle.rule_grammar.specs.Trees.{Tree, Tree.Plain, Tree.Filtered, Chain, Chain.One, Chain.More, Part, Part.Bare, Part.Atom, Part.Without, Part.Rounded, Round, Round.Bracketed, Round.Exactly, Round.AtMost}
 use Rattle.rule_grammar.specs.Trees.{Items, Items.OneItem, Items.MoreItem, Statement, Statement.Clause, Statement.Shown, Statements, Statements.Empty, Statements.Then}
-use Rattle.rule_grammar.specs.Marks.{Role, Marked, Counted, nothing_counted, count, count_all, by_role, passed}
-use Rattle.rule_grammar.specs.Marks.{Role.Quiet, Role.Starts, Role.Single, Role.Binary, Role.Nests, Role.Deepens, Role.Counts, Role.Lists, Role.Lasts, Role.HasArity}
+use Rattle.rule_grammar.specs.Marks.{Role, Marked, Counted, nothing_counted, count_all, by_role}
+use Rattle.rule_grammar.specs.Marks.{Role.Quiet, Role.Starts, Role.Single, Role.Nests, Role.Counts, Role.Lists, Role.Lasts, Role.HasArity}
 use Rattle.rule_grammar.specs.Tokens.{quiet, binary, a_part, literal, count_of, term, arguments, wanted, never, head_term, count_of_terms, head_terms, heading, adding, scaling, joint, condition, all, negation, comparison, sum, product, unit, tree, chain, part, round, items, statement, number_of, statements, text, bare}
-use Rattle.rule_grammar.specs.Values.{slot_of, variable, wanted_value, never_value, literal_value, term_value, arguments_value, head_term_value, head_terms_value, heading_value, adding_value, scaling_value, condition_value, all_value, negation_value, comparison_value, sum_value, product_value, unit_value, joined_value, tree_value, chain_value, part_value, round_value, items_value, names_of, statement_value, text_value}
+use Rattle.rule_grammar.specs.Values.{slot_of, variable, wanted_value, never_value, literal_value, term_value, arguments_value, head_term_value, head_terms_value, heading_value, condition_value, all_value, negation_value, comparison_value, sum_value, product_value, unit_value, joined_value, tree_value, chain_value, part_value, round_value, items_value, names_of, statement_value, text_value}
 use Rattle.rule_grammar.specs.Texts.{IsWithin}
 use Rattle.rule_grammar.specs.Shown.{names_shown, shown_count}
-use Rattle.rule_grammar.proofs.Fronts.{IsInner, AllInner, Puts, Begins, statement_begins}
-use Rattle.rule_grammar.proofs.Names.{within_limit, few_names, IsKnown, TokenKnown, Fits, IsNamed, no_variable_known, slot_within, rest_within, named}
+use Rattle.rule_grammar.proofs.Fronts.{Begins, statement_begins}
+use Rattle.rule_grammar.proofs.Names.{within_limit, few_names, IsKnown, TokenKnown, Fits, no_variable_known, slot_within, rest_within, named}
 
 -- ---- a test of arguments
 
@@ -289,7 +288,7 @@ statement_shaped n s g rest h = at (statement_begins s)
         record {
           few = (within_limit 1024 n which.Statements None starts).0;
           shaped = statement_fits g'.names n s (ap (λ ms. (count_all nothing_counted ms).names) (begins_alone b 1)) known.few known.differ
-          (subst (Fits g'.names) (sym (begins_alone b n)) (starts, no_variable_known g'.names b.first b.no_variable, known.fits));
+              (subst (Fits g'.names) (sym (begins_alone b n)) (starts, no_variable_known g'.names b.first b.no_variable, known.fits));
           left = g';
           over = rest_within nothing_counted b.puts.front rest w.1;
         }
