@@ -45,6 +45,13 @@ link_on {L = L} {E = E} {x = x} link {r2 = r2} {g1 = g1} a e n f c q =
     ∙ resume_on g1 (L.behind c a.tree) Binary (E.state (link.next c a.tree)) e (link.goes c a.tree) (ap (λ h. passed h Binary) n ∙ by_role_alone (with_part g1) Binary f)
     ∙ ap (λ h. run r2 h (E.state (link.next c a.tree))) n
 
+pub link_fails : {C T C' T' V : Type 0} {L : Level C T} {E : Level C' T'} {x : Lexeme} (link : Link L E x) {value : List (List ℕ) → T → V} {ts r1 r2 : List Lexeme} {d : ℕ} {g g1 g2 : Counted} {v : V} (err : Stop)
+    → (a : Read L value ts d g g1 v r1) → r1 ≡ x ∷ r2 → count g1 (Binary, x) ≡ with_part g1 → g2 ≡ with_part g1 → Fine (with_part g1)
+    → ((c : C') → E.depth c ≡ d → Fails err (run r2 g2 (E.state c)))
+    → (c : C) → L.depth c ≡ d → Fails err (run ts g (L.state c))
+link_fails {L = L} {E = E} link {r2 = r2} err a e n p f fails c q =
+    fails_along err (link_on link a e n f c q ∙ ap (λ y. run r2 y (E.state (link.next c a.tree))) (sym p)) (fails (link.next c a.tree) (link.deep c a.tree ∙ q))
+
 -- what was read of the first tree is what it is with the names that come later
 pub earlier : {C T C' T' V V' : Type 0} {L : Level C T} {E : Level C' T'} {value : List (List ℕ) → T → V} {value' : List (List ℕ) → T' → V'} {ts r1 r2 rest : List Lexeme} {d : ℕ} {g g1 g' : Counted} {v : V} {v' : V'}
     → (a : Read L value ts d g g1 v r1) → Read E value' r2 d (with_part g1) g' v' rest → (names : List (List ℕ)) → Extends g'.names names → value names a.tree ≡ v

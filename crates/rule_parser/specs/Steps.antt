@@ -1,8 +1,12 @@
 -- What a function that reads tokens gives, under every context in which they can stand.
-use Rattle.std.specs.Prelude.{◌≡◌, ℕ, ◌+◌, ◌<◌, ◌≤◌, Bool, true, false, List, [], ◌∷◌, ◌++◌, length, Option, Some, None, Result, Ok, Err}
+use Rattle.std.specs.Prelude.{◌≡◌, ℕ, ◌+◌, ◌^◌, ◌<◌, ◌≤◌, Bool, true, false, List, [], ◌∷◌, ◌++◌, length, Option, Some, None, Result, Ok, Err}
 use Rattle.std.specs.List.{list_any}
 use Rattle.std.specs.Str.{bytes_eq}
+use Rattle.std.specs.Prelude.{Box}
 use Rattle.std.specs.Borrow.{Bor}
+use Rattle.rule_ast.specs.declared.patterns.Pattern.{Pattern}
+use Rattle.rule_ast.specs.Trees.{PlainPattern}
+use Rattle.rule_ast.specs.Plain.{plain_pattern}
 use Rattle.std.specs.declared.vec.Vec.{Vec}
 use Rattle.ev_term.specs.declared.terms.Pat.{Pat}
 use Rattle.rule_tokens.specs.declared.lexemes.Lexeme.{Lexeme}
@@ -145,13 +149,6 @@ term_level k = record {
     state = λ c. in_list k (WantTerm c.0 c.1);
     behind = λ c a x. turn_of k (behind_terms c.0 (put_term c.1 a) x) }
 
--- behind a name that stands first
-abbrev pub named_level : (k : Kind) → List ℕ → Level (Within k) (Term (Leaves k))
-named_level k name = record {
-    depth = λ c. level (base k) c.0;
-    state = λ c. in_list k (HaveName c.0 c.1 name);
-    behind = λ c a x. turn_of k (behind_terms c.0 (put_term c.1 a) x) }
-
 -- arguments without the bracket that closes their list
 abbrev pub terms_level : (k : Kind) → Level (Nest (Leaves k) (Place k)) (Arguments (Leaves k))
 terms_level k = record {
@@ -255,9 +252,6 @@ begins_word x = false
 abbrev pub unit_level : Level ProductHead Unit'
 unit_level = record { depth = product_depth; state = WantUnit; behind = λ h u x. behind_unit (have_unit h u) x }
 
-abbrev pub named_unit_level : List ℕ → Level ProductHead Unit'
-named_unit_level name = record { depth = product_depth; state = λ h. UnitName h name; behind = λ h u x. behind_unit (have_unit h u) x }
-
 abbrev pub product_level : Level SumHead Product
 product_level = record { depth = sum_depth; state = λ h. WantUnit (FirstUnit h); behind = behind_product }
 
@@ -278,17 +272,14 @@ condition_level = record { depth = where_depth; state = λ w. WantNegation (firs
 
 -- Patterns.
 
+abbrev pub boxed_pattern : {Z : Type 0} → Box Pattern Z → PlainPattern
+boxed_pattern b = plain_pattern b.value
+
 abbrev pub PartPlace : Type 0
 PartPlace = ChainHead × Stack
 
 abbrev pub part_level : Level PartPlace Part
 part_level = record { depth = λ c. depth c.1; state = λ c. WantPart c.0 c.1; behind = λ c p x. behind_chain c.1 (put c.0 p) x }
-
-abbrev pub named_part_level : List ℕ → Level PartPlace Part
-named_part_level name = record { depth = λ c. depth c.1; state = λ c. AtomName c.0 c.1 name; behind = λ c p x. behind_chain c.1 (put c.0 p) x }
-
-abbrev pub without_level : Level PartPlace Part
-without_level = record { depth = λ c. depth c.1; state = λ c. WantOpen c.0 c.1; behind = λ c p x. behind_chain c.1 (put c.0 p) x }
 
 abbrev pub round_level : Level PartPlace Round
 round_level = record { depth = λ c. depth c.1; state = λ c. WantPart c.0 c.1; behind = λ c r x. step (HaveRound c.0 r c.1) x }
@@ -298,6 +289,31 @@ chain_level = record { depth = depth; state = WantPart FirstPart; behind = behin
 
 abbrev pub tree_level : Level Stack Tree
 tree_level = record { depth = depth; state = WantPart FirstPart; behind = behind }
+
+-- Lengths.
+
+abbrev pub LacksNumber : List Lexeme → Type 0
+LacksNumber (t.Number n ∷ xs) = ⊥
+LacksNumber xs = Unit {0}
+
+pub record LengthRead (ts : List Lexeme) (q : ℕ) (rest : List Lexeme) : Type 0 where
+  pub tokens : ts ≡ t.Number q ∷ rest
+  pub within : q ≤ 2 ^ 62
+
+pub record TooLong (ts : List Lexeme) : Type 0 where
+  pub q : ℕ
+  pub rest : List Lexeme
+  pub tokens : ts ≡ t.Number q ∷ rest
+  pub over : 2 ^ 62 < q
+
+abbrev pub LengthFails : List Lexeme → Fault → Type 0
+LengthFails ts (fault.Syntax left) = (left ≡ length ts) × LacksNumber ts
+LengthFails ts (fault.Limit w left) = (w ≡ which.Length) × (left ≡ length ts) × TooLong ts
+
+abbrev pub LengthAnswer : List Lexeme → Result (ℕ × Bor (List Lexeme)) Stop → Type 0
+LengthAnswer ts (Ok x) = LengthRead ts x.0 x.1.now
+LengthAnswer ts (Err stop.Memory) = ⊥
+LengthAnswer ts (Err (stop.Fault f)) = LengthFails ts f
 
 -- Terms of heads.
 
