@@ -16,9 +16,9 @@ use Rattle.rule_grammar.specs.Trees.{Literal, Literal.Digits, Literal.Minus, Lit
 use Rattle.rule_grammar.specs.Trees.{Wanted, Wanted.Variable, Wanted.Anything, HeadTerm, HeadTerm.Leading, HeadTerm.Fixed, HeadTerms, HeadTerms.FirstTerm, HeadTerms.NextTerm, Heading, Heading.Plainly, Heading.Applied}
 use Rattle.rule_grammar.specs.Trees.{Condition, Condition.OneAll, Condition.MoreAll, All, All.OneNegation, All.MoreNegation, Negation, Negation.Negated, Negation.Compared, Comparison, Comparison.OneSum, Comparison.TwoSums, Sum, Sum.OneProduct, Sum.MoreProduct, Product, Product.OneUnit, Product.MoreUnit, Unit', Unit'.Value, Unit'.Grouped}
 use Rattle.rule_grammar.specs.Trees.{Tree, Tree.Plain, Tree.Filtered, Chain, Chain.One, Chain.More, Part, Part.Bare, Part.Atom, Part.Without, Part.Rounded, Round, Round.Bracketed, Round.Exactly, Round.AtMost, Statements}
-use Rattle.rule_grammar.specs.Marks.{Role, Counted, count, passed, by_role, with_name, over}
+use Rattle.rule_grammar.specs.Marks.{Role, Marked, Counted, count, count_all, passed, by_role, with_name, over}
 use Rattle.rule_grammar.specs.Marks.{Role.Quiet, Role.Starts, Role.Single, Role.Binary, Role.Nests, Role.Deepens, Role.Counts, Role.Lists, Role.Lasts, Role.HasArity}
-use Rattle.rule_grammar.specs.Tokens.{count_of, adding, scaling, joint}
+use Rattle.rule_grammar.specs.Tokens.{literal, sum, comparison, term, arguments, wanted, head_term, part, unit, product, negation, all, condition, chain, count_of, adding, scaling, joint}
 use Rattle.rule_grammar.specs.Lists.{Before, Before.Start, Before.Behind, Nest, Nest.Outside, Nest.Inside, ListState, ListState.WantTerm, ListState.WantDigits, ListState.HaveName, ListState.HaveTerms, Turn, Turn.Stay, Turn.Leave, Turn.Stuck, level, have, have_leaf, behind_terms, list_step, put_term}
 use Rattle.rule_grammar.specs.Machine.{ChainHead, ChainHead.FirstPart, ChainHead.NextPart, TermsHead, TermsHead.FirstOfHead, TermsHead.NextOfHead, put, put_head, Stack, Stack.Body, Stack.InRound, Stack.InNot, Stack.InBefore, Stack.InAfter, Where', Where'.InWhere, Where'.InGroup, OrHead, OrHead.FirstAll, OrHead.NextAll, AndHead, AndHead.FirstNegation, AndHead.NextNegation, NotHead, NotHead.NoBang, NotHead.Bang, CompareHead, CompareHead.FirstSum, CompareHead.SecondSum, SumHead, SumHead.FirstProduct, SumHead.NextProduct, ProductHead, ProductHead.FirstUnit, ProductHead.NextUnit}
 use Rattle.rule_grammar.specs.Machine.{State, State.Between, State.HeadName, State.WantHeadTerm, State.HeadMinus, State.HeadWord, State.HaveHeadTerms, State.InHead, State.HaveHead, State.WantItem, State.ItemName, State.ItemSlash, State.HaveItems, State.WantPart, State.AtomName, State.InAtom, State.WantOpen, State.WantLimits, State.HavePart, State.HaveRound, State.WantExact, State.WantMost, State.WantNegation, State.WantUnit, State.UnitMinus, State.UnitName, State.InOperand, State.HaveProduct}
@@ -29,7 +29,7 @@ use Rattle.rule_parser.specs.declared.signs.Sign.TheVariants as sign
 use Rattle.rule_parser.specs.declared.terms.Kind.{Kind}
 use Rattle.rule_parser.specs.declared.terms.Kind.TheVariants.{Ground, Operand, Argument}
 use Rattle.rule_parser.specs.Signs.{Lacks, LacksJoint, LacksAdding, LacksScaling, LacksCompare}
-use Rattle.rule_parser.specs.Steps.{Fine, with_variable, with_part, Extends, Fails, resume, Level, Runs, Read, Leaves, Place, base, leaf_read, in_list, turn_of, leaf_value, term_of, terms_of, term_level, terms_level, ListRead, word_tokens, IsNoSymbol, LacksWord, LacksDigits, WordRead, WordFails, WordAnswer, NegativeAnswer, LeafRead, LeafFails, LeafAnswer, SlotStops, ListAnswer, Answer, same, counted}
+use Rattle.rule_parser.specs.Steps.{Fine, with_variable, with_part, Extends, Fails, resume, Level, Runs, Read, Leaves, Place, base, leaf_read, leaf_lexeme, in_list, turn_of, leaf_value, term_of, terms_of, term_level, terms_level, ListRead, word_tokens, IsNoSymbol, LacksWord, LacksDigits, WordRead, WordFails, WordAnswer, NegativeAnswer, LeafRead, LeafFails, LeafAnswer, SlotStops, ListAnswer, Answer, same, counted}
 use Rattle.rule_grammar.specs.Values.{slot_of, variable, wanted_value, never_value, literal_value, term_value, arguments_value, head_term_value, head_terms_value, adding_value, scaling_value, condition_value, all_value, negation_value, comparison_value, sum_value, product_value, unit_value, joined_value, tree_value, chain_value, part_value, round_value}
 use Rattle.rule_parser.proofs.Names.{extends_refl, extends_trans, extends_name}
 use Rattle.rule_parser.specs.Steps.{AnswerTo, Link, begins_word, unit_level, product_level, sum_level, comparison_level, negation_level, all_level, condition_level}
@@ -111,7 +111,7 @@ unit_variable {ts} {rest} {d} {g} {g1} {g'} {name} {slot} e p q f s =
     let fine : Fine (with_variable (with_part g) name) = subst Fine (ap (λ y. with_variable y name) p) f in
     record {
       tree = Value (Leaf name); says = λ names h. ap (λ z. plain.Value (pat.Var z)) (s names h); grows = subst (λ y. Extends g.names y.names) (sym same) (extends_name g.names name);
-      fine = subst Fine (sym same) fine; shorter = omega (arith, ap length e);
+      fine = subst Fine (sym same) fine; shorter = omega (arith, ap length e); counts = λ more. ap (λ y. count_all y more) (sym same);
       runs = λ h r.
         run_on g (WantUnit h) Single (have_unit h (Value (Leaf name))) e refl (single (with_variable (with_part g) name) fine)
         ∙ ap (λ y. run rest y (have_unit h (Value (Leaf name)))) (sym same) ∙ unit_resumes h (Value (Leaf name)) rest g' }
@@ -128,10 +128,17 @@ word_unit_runs Least ts rest g f n e h =
 word_unit_runs (Symbol name) ts rest g f n e h = absurd n
 word_unit_runs (Quoted text) ts rest g f n e h = run_on g (WantUnit h) Single (have_unit h (Value (Lone (Quoted text)))) e refl (single (with_part g) f) ∙ unit_resumes h (Value (Lone (Quoted text))) rest (with_part g)
 
+word_unit_counts : (l : Literal) → IsNoSymbol l → (g : Counted) (more : List Marked) → count_all g (literal Single l more) ≡ count_all (with_part g) more
+word_unit_counts (Digits m) n g more = refl
+word_unit_counts (Minus m) n g more = refl
+word_unit_counts Least n g more = refl
+word_unit_counts (Symbol name) n g more = refl
+word_unit_counts (Quoted text) n g more = refl
+
 pub unit_word : {ts rest : List Lexeme} {d : ℕ} {g g' : Counted} {v : Pat} → g' ≡ with_part g → Fine (with_part g) → WordRead ts v rest → Read unit_level unit_value ts d g g' (plain.Value v) rest
 unit_word {ts} {rest} {d} {g} {g'} {v} p f w = record {
   tree = Value (Lone w.literal); says = λ names q. ap plain.Value w.says; grows = subst (λ y. Extends g.names y.names) (sym p) (extends_refl g.names); fine = subst Fine (sym p) f;
-  shorter = word_shorter w.literal ts rest w.tokens;
+  shorter = word_shorter w.literal ts rest w.tokens; counts = λ more. word_unit_counts w.literal w.no_symbol g more ∙ ap (λ y. count_all y more) (sym p);
   runs = λ h q. word_unit_runs w.literal ts rest g f w.no_symbol w.tokens h ∙ ap (λ y. resume (λ x. behind_unit (have_unit h (Value (Lone w.literal))) x) rest y) (sym p) }
 
 pub no_word : {A : Type 0} {ts rest : List Lexeme} {x : Lexeme} → ts ≡ x ∷ rest → begins_word x ≡ true → LacksWord ts → A
@@ -147,7 +154,7 @@ pub unit_symbol : {ts rest : List Lexeme} {d : ℕ} {g g' : Counted} {name v : L
     → Read unit_level unit_value ts d g g' (plain.Value (pat.Sym v)) rest
 unit_symbol {ts} {rest} {d} {g} {g'} {name} {v} p f e l s = record {
   tree = Value (Lone (Symbol name)); says = λ names q. ap (λ z. plain.Value (pat.Sym z)) (sym s); grows = subst (λ y. Extends g.names y.names) (sym p) (extends_refl g.names); fine = subst Fine (sym p) f;
-  shorter = omega (arith, ap length e);
+  shorter = omega (arith, ap length e); counts = λ more. ap (λ y. count_all y more) (sym p);
   runs = λ h q.
     run_on g (WantUnit h) Single (UnitName h name) e refl (single (with_part g) f)
     ∙ ap (λ y. run rest y (UnitName h name)) (sym p) ∙ name_unit_resumes h name rest g' l }
@@ -165,6 +172,7 @@ unit_compound {ts} {r1} {r2} {rest} {d} {g} {g1} {g'} {name} {v} {vs} p f e1 e2 
   tree = Value (Compound name l.read.tree);
   says = λ names q. ap (λ n. plain.Value (pat.Comp n (terms_of Operand names l.read.tree))) (sym s) ∙ ap (λ z. plain.Value (pat.Comp v z)) (l.read.says names q);
   grows = subst (λ y. Extends y.names g'.names) p l.read.grows; fine = l.read.fine; shorter = omega (arith, ap length e1, ap length e2, l.read.shorter, ap length l.close);
+  counts = λ more. ap (λ y. count_all y (arguments t.Var 2 l.read.tree ((Quiet, t.Close) ∷ more))) (sym p) ∙ l.read.counts ((Quiet, t.Close) ∷ more);
   runs = λ h q.
     compound_begins g p f e1 e2 h
     ∙ l.read.runs (Outside (h, name)) refl
@@ -183,6 +191,7 @@ pub unit_grouped : {ts r1 r2 rest : List Lexeme} {d : ℕ} {g g' : Counted} {v :
     → Read unit_level unit_value ts d g g' v rest
 unit_grouped {ts} {r1} {r2} {rest} {d} {g} {g'} {v} f n e c l = record {
   tree = Grouped c.tree; says = c.says; grows = c.grows; fine = c.fine; shorter = omega (arith, ap length e, c.shorter, ap length l);
+  counts = λ more. c.counts ((Quiet, t.Close) ∷ more);
   runs = λ h q.
     group_begins f n e h q
     ∙ c.runs (InGroup h) (ap (λ m. m + 1) q)
@@ -192,7 +201,7 @@ unit_grouped {ts} {r1} {r2} {rest} {d} {g} {g'} {v} f n e c l = record {
 -- Products.
 
 pub product_one : {ts rest : List Lexeme} {d : ℕ} {g g' : Counted} {v : PlainCond} → Read unit_level unit_value ts d g g' v rest → Read product_level product_value ts d g g' v rest
-product_one u = record { tree = OneUnit u.tree; says = u.says; grows = u.grows; fine = u.fine; shorter = u.shorter; runs = λ h q. u.runs (FirstUnit h) q }
+product_one u = record { tree = OneUnit u.tree; says = u.says; grows = u.grows; fine = u.fine; shorter = u.shorter; counts = u.counts; runs = λ h q. u.runs (FirstUnit h) q }
 
 pub product_more : {ts r1 r2 rest : List Lexeme} {d : ℕ} {g g1 g2 g' : Counted} {u v w : PlainCond} (op : Scaling) → Read product_level product_value ts d g g1 u r1 → r1 ≡ scaling op ∷ r2 → g2 ≡ with_part g1 → Fine (with_part g1)
     → Read unit_level unit_value r2 d g2 g' v rest → w ≡ plain.Calculate (scaling_value op) u v → Read product_level product_value ts d g g' w rest
@@ -201,6 +210,7 @@ product_more {ts} {r1} {r2} {rest} {d} {g} {g1} {g2} {g'} {u} {v} op a e p f b0 
     record {
       tree = MoreUnit a.tree op b.tree; says = λ names q. cc (earlier a b names q, b.says names q, s);
       grows = extends_trans a.grows b.grows; fine = b.fine; shorter = omega (arith, a.shorter, ap length e, b.shorter);
+      counts = λ more. a.counts ((Binary, scaling op) ∷ unit d b.tree more) ∙ ap (λ y. count_all y (unit d b.tree more)) (scaling_counts g1 op) ∙ b.counts more;
       runs = λ h q. link_on (scaling_link op) a e (scaling_counts g1 op) f h q ∙ b.runs (NextUnit h a.tree op) q }
 
 -- Sums.
@@ -214,7 +224,7 @@ product_over h p (x ∷ xs) g l = refl
 
 pub sum_one : {ts rest : List Lexeme} {d : ℕ} {g g' : Counted} {v : PlainCond} → Read product_level product_value ts d g g' v rest → LacksScaling rest → Read sum_level sum_value ts d g g' v rest
 sum_one {rest = rest} {g' = g'} p l = record {
-  tree = OneProduct p.tree; says = p.says; grows = p.grows; fine = p.fine; shorter = p.shorter;
+  tree = OneProduct p.tree; says = p.says; grows = p.grows; fine = p.fine; shorter = p.shorter; counts = p.counts;
   runs = λ c q. p.runs (FirstProduct c) q ∙ product_over (FirstProduct c) p.tree rest g' l }
 
 pub sum_more : {ts r1 r2 rest : List Lexeme} {d : ℕ} {g g1 g2 g' : Counted} {u v w : PlainCond} (op : Adding) → Read sum_level sum_value ts d g g1 u r1 → r1 ≡ adding op ∷ r2 → g2 ≡ with_part g1 → Fine (with_part g1)
@@ -224,6 +234,7 @@ sum_more {ts} {r1} {r2} {rest} {d} {g} {g1} {g2} {g'} {u} {v} op a e p f b0 l s 
     record {
       tree = MoreProduct a.tree op b.tree; says = λ names q. cc (earlier a b names q, b.says names q, s);
       grows = extends_trans a.grows b.grows; fine = b.fine; shorter = omega (arith, a.shorter, ap length e, b.shorter);
+      counts = λ more. a.counts ((Binary, adding op) ∷ product d b.tree more) ∙ ap (λ y. count_all y (product d b.tree more)) (adding_counts g1 op) ∙ b.counts more;
       runs = λ c q. link_on (adding_link op) a e (adding_counts g1 op) f c q ∙ b.runs (NextProduct c a.tree op) q ∙ product_over (NextProduct c a.tree op) b.tree rest g' l }
 
 -- Comparisons.
@@ -243,7 +254,7 @@ second_over n l cmp s (x ∷ xs) g a = refl
 
 pub comparison_one : {ts rest : List Lexeme} {d : ℕ} {g g' : Counted} {v : PlainCond} → Read sum_level sum_value ts d g g' v rest → LacksAdding rest → LacksCompare rest → Read comparison_level comparison_value ts d g g' v rest
 comparison_one {rest = rest} {g' = g'} s a b = record {
-  tree = OneSum s.tree; says = s.says; grows = s.grows; fine = s.fine; shorter = s.shorter;
+  tree = OneSum s.tree; says = s.says; grows = s.grows; fine = s.fine; shorter = s.shorter; counts = s.counts;
   runs = λ n q. s.runs (FirstSum n) q ∙ sum_over n s.tree rest g' a b }
 
 compare_begins : {ts r1 r2 : List Lexeme} {d : ℕ} {g g1 : Counted} {u : PlainCond} (cmp : Cmp) → (a : Read sum_level sum_value ts d g g1 u r1) → r1 ≡ t.Compare cmp ∷ r2 → Fine (with_part g1)
@@ -259,6 +270,7 @@ comparison_two {ts} {r1} {r2} {rest} {d} {g} {g1} {g2} {g'} {u} {v} {w} {cmp} a 
     record {
       tree = TwoSums a.tree cmp b.tree; says = λ names q. cc (earlier a b names q, b.says names q, s);
       grows = extends_trans a.grows b.grows; fine = b.fine; shorter = omega (arith, a.shorter, ap length e, b.shorter);
+      counts = λ more. a.counts ((Binary, t.Compare cmp) ∷ sum d b.tree more) ∙ b.counts more;
       runs = λ n q. compare_begins cmp a e f n q ∙ b.runs (SecondSum n a.tree cmp) q ∙ second_over n a.tree cmp b.tree rest g' l }
 
 -- Negations.
@@ -270,7 +282,7 @@ negation_enters n (x ∷ xs) g l = refl
 
 pub negation_compared : {ts rest : List Lexeme} {d : ℕ} {g g' : Counted} {v : PlainCond} → Lacks sign.Bang ts → Read comparison_level comparison_value ts d g g' v rest → Read negation_level negation_value ts d g g' v rest
 negation_compared {ts} {rest} {d} {g} l c = record {
-  tree = Compared c.tree; says = c.says; grows = c.grows; fine = c.fine; shorter = c.shorter; runs = λ n q. negation_enters n ts g l ∙ c.runs n q }
+  tree = Compared c.tree; says = c.says; grows = c.grows; fine = c.fine; shorter = c.shorter; counts = c.counts; runs = λ n q. negation_enters n ts g l ∙ c.runs n q }
 
 pub negation_compared_answer : {R : Type 0} (plain' : R → PlainCond) (ts : List Lexeme) (d : ℕ) (g g' : Counted) (r : Result (R × Bor (List Lexeme)) Stop) → Lacks sign.Bang ts → Answer comparison_level comparison_value plain' ts d g g' r → Answer negation_level negation_value plain' ts d g g' r
 negation_compared_answer plain' ts d g g' (Ok x) l a = negation_compared l a
@@ -283,12 +295,13 @@ pub negation_more : {ts r1 rest : List Lexeme} {d : ℕ} {g g1 g' : Counted} {v 
     → Read negation_level negation_value ts d g g' w rest
 negation_more {ts} {r1} {rest} {d} {g} {g1} {g'} e p f n s = record {
   tree = Negated n.tree; says = λ names q. ap plain.Negate (n.says names q) ∙ sym s; grows = subst (λ y. Extends y.names g'.names) p n.grows; fine = n.fine; shorter = omega (arith, ap length e, n.shorter);
+  counts = λ more. ap (λ y. count_all y (negation d n.tree more)) (sym p) ∙ n.counts more;
   runs = λ h q. bang_begins g e f h ∙ ap (λ y. run r1 y (WantNegation (Bang h))) (sym p) ∙ n.runs (Bang h) q }
 
 -- Conjunctions and conditions.
 
 pub all_one : {ts rest : List Lexeme} {d : ℕ} {g g' : Counted} {v : PlainCond} → Read negation_level negation_value ts d g g' v rest → Read all_level all_value ts d g g' v rest
-all_one n = record { tree = OneNegation n.tree; says = n.says; grows = n.grows; fine = n.fine; shorter = n.shorter; runs = λ o q. n.runs (NoBang (FirstNegation o)) q }
+all_one n = record { tree = OneNegation n.tree; says = n.says; grows = n.grows; fine = n.fine; shorter = n.shorter; counts = n.counts; runs = λ o q. n.runs (NoBang (FirstNegation o)) q }
 
 pub all_more : {ts r1 r2 rest : List Lexeme} {d : ℕ} {g g1 g2 g' : Counted} {u v w : PlainCond} → Read all_level all_value ts d g g1 u r1 → r1 ≡ t.Both ∷ r2 → g2 ≡ with_part g1 → Fine (with_part g1)
     → Read negation_level negation_value r2 d g2 g' v rest → w ≡ plain.AndAlso u v → Read all_level all_value ts d g g' w rest
@@ -297,6 +310,7 @@ all_more {ts} {r1} {r2} {rest} {d} {g} {g1} {g2} {g'} {u} {v} a e p f b0 s =
     record {
       tree = MoreNegation a.tree b.tree; says = λ names q. cc (earlier a b names q, b.says names q, s);
       grows = extends_trans a.grows b.grows; fine = b.fine; shorter = omega (arith, a.shorter, ap length e, b.shorter);
+      counts = λ more. a.counts ((Binary, t.Both) ∷ negation d b.tree more) ∙ b.counts more;
       runs = λ o q. link_on both_link a e refl f o q ∙ b.runs (NoBang (NextNegation o a.tree)) q }
 
 all_over : (o : OrHead) (a : All) (rest : List Lexeme) (g : Counted) → Lacks sign.Both rest → resume (behind_all o a) rest g ≡ resume (behind_condition (over_condition o a).0 (over_condition o a).1) rest g
@@ -306,7 +320,7 @@ all_over o a (x ∷ xs) g l = refl
 
 pub condition_one : {ts rest : List Lexeme} {d : ℕ} {g g' : Counted} {v : PlainCond} → Read all_level all_value ts d g g' v rest → Lacks sign.Both rest → Read condition_level condition_value ts d g g' v rest
 condition_one {rest = rest} {g' = g'} a l = record {
-  tree = OneAll a.tree; says = a.says; grows = a.grows; fine = a.fine; shorter = a.shorter; runs = λ w q. a.runs (FirstAll w) q ∙ all_over (FirstAll w) a.tree rest g' l }
+  tree = OneAll a.tree; says = a.says; grows = a.grows; fine = a.fine; shorter = a.shorter; counts = a.counts; runs = λ w q. a.runs (FirstAll w) q ∙ all_over (FirstAll w) a.tree rest g' l }
 
 pub condition_more : {ts r1 r2 rest : List Lexeme} {d : ℕ} {g g1 g2 g' : Counted} {u v w : PlainCond} → Read condition_level condition_value ts d g g1 u r1 → r1 ≡ t.Either ∷ r2 → g2 ≡ with_part g1 → Fine (with_part g1)
     → Read all_level all_value r2 d g2 g' v rest → Lacks sign.Both rest → w ≡ plain.OrElse u v → Read condition_level condition_value ts d g g' w rest
@@ -315,4 +329,5 @@ condition_more {ts} {r1} {r2} {rest} {d} {g} {g1} {g2} {g'} {u} {v} a e p f b0 l
     record {
       tree = MoreAll a.tree b.tree; says = λ names q. cc (earlier a b names q, b.says names q, s);
       grows = extends_trans a.grows b.grows; fine = b.fine; shorter = omega (arith, a.shorter, ap length e, b.shorter);
+      counts = λ more. a.counts ((Binary, t.Either) ∷ all d b.tree more) ∙ b.counts more;
       runs = λ w q. link_on either_link a e refl f w q ∙ b.runs (NextAll w a.tree) q ∙ all_over (NextAll w a.tree) b.tree rest g' l }

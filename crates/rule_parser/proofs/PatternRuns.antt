@@ -17,9 +17,9 @@ use Rattle.rule_grammar.specs.Trees.{Literal, Literal.Digits, Literal.Minus, Lit
 use Rattle.rule_grammar.specs.Trees.{Wanted, Wanted.Variable, Wanted.Anything, HeadTerm, HeadTerm.Leading, HeadTerm.Fixed, HeadTerms, HeadTerms.FirstTerm, HeadTerms.NextTerm, Heading, Heading.Plainly, Heading.Applied}
 use Rattle.rule_grammar.specs.Trees.{Condition, Condition.OneAll, Condition.MoreAll, All, All.OneNegation, All.MoreNegation, Negation, Negation.Negated, Negation.Compared, Comparison, Comparison.OneSum, Comparison.TwoSums, Sum, Sum.OneProduct, Sum.MoreProduct, Product, Product.OneUnit, Product.MoreUnit, Unit', Unit'.Value, Unit'.Grouped}
 use Rattle.rule_grammar.specs.Trees.{Tree, Tree.Plain, Tree.Filtered, Chain, Chain.One, Chain.More, Part, Part.Bare, Part.Atom, Part.Without, Part.Rounded, Round, Round.Bracketed, Round.Exactly, Round.AtMost, Statements}
-use Rattle.rule_grammar.specs.Marks.{Role, Counted, count, passed, by_role, with_name, over}
+use Rattle.rule_grammar.specs.Marks.{Role, Marked, Counted, count, count_all, passed, by_role, with_name, over}
 use Rattle.rule_grammar.specs.Marks.{Role.Quiet, Role.Starts, Role.Single, Role.Binary, Role.Nests, Role.Deepens, Role.Counts, Role.Lists, Role.Lasts, Role.HasArity}
-use Rattle.rule_grammar.specs.Tokens.{count_of, adding, scaling, joint}
+use Rattle.rule_grammar.specs.Tokens.{literal, tree, term, arguments, wanted, head_term, part, unit, product, negation, all, condition, chain, count_of, adding, scaling, joint}
 use Rattle.rule_grammar.specs.Lists.{Before, Before.Start, Before.Behind, Nest, Nest.Outside, Nest.Inside, ListState, ListState.WantTerm, ListState.WantDigits, ListState.HaveName, ListState.HaveTerms, Turn, Turn.Stay, Turn.Leave, Turn.Stuck, level, have, have_leaf, behind_terms, list_step, put_term}
 use Rattle.rule_grammar.specs.Machine.{ChainHead, ChainHead.FirstPart, ChainHead.NextPart, TermsHead, TermsHead.FirstOfHead, TermsHead.NextOfHead, put, put_head, Stack, Stack.Body, Stack.InRound, Stack.InNot, Stack.InBefore, Stack.InAfter, Where', Where'.InWhere, Where'.InGroup, OrHead, OrHead.FirstAll, OrHead.NextAll, AndHead, AndHead.FirstNegation, AndHead.NextNegation, NotHead, NotHead.NoBang, NotHead.Bang, CompareHead, CompareHead.FirstSum, CompareHead.SecondSum, SumHead, SumHead.FirstProduct, SumHead.NextProduct, ProductHead, ProductHead.FirstUnit, ProductHead.NextUnit}
 use Rattle.rule_grammar.specs.Machine.{State, State.Between, State.HeadName, State.WantHeadTerm, State.HeadMinus, State.HeadWord, State.HaveHeadTerms, State.InHead, State.HaveHead, State.WantItem, State.ItemName, State.ItemSlash, State.HaveItems, State.WantPart, State.AtomName, State.InAtom, State.WantOpen, State.WantLimits, State.HavePart, State.HaveRound, State.WantExact, State.WantMost, State.WantNegation, State.WantUnit, State.UnitMinus, State.UnitName, State.InOperand, State.HaveProduct}
@@ -30,7 +30,7 @@ use Rattle.rule_parser.specs.declared.signs.Sign.TheVariants as sign
 use Rattle.rule_parser.specs.declared.terms.Kind.{Kind}
 use Rattle.rule_parser.specs.declared.terms.Kind.TheVariants.{Ground, Operand, Argument}
 use Rattle.rule_parser.specs.Signs.{Lacks, LacksJoint, LacksAdding, LacksScaling, LacksCompare}
-use Rattle.rule_parser.specs.Steps.{Fine, with_variable, with_part, Extends, Fails, resume, Level, Runs, Read, Leaves, Place, base, leaf_read, in_list, turn_of, leaf_value, term_of, terms_of, term_level, terms_level, ListRead, word_tokens, IsNoSymbol, LacksWord, LacksDigits, WordRead, WordFails, WordAnswer, NegativeAnswer, LeafRead, LeafFails, LeafAnswer, SlotStops, ListAnswer, Answer, same, counted}
+use Rattle.rule_parser.specs.Steps.{Fine, with_variable, with_part, Extends, Fails, resume, Level, Runs, Read, Leaves, Place, base, leaf_read, leaf_lexeme, in_list, turn_of, leaf_value, term_of, terms_of, term_level, terms_level, ListRead, word_tokens, IsNoSymbol, LacksWord, LacksDigits, WordRead, WordFails, WordAnswer, NegativeAnswer, LeafRead, LeafFails, LeafAnswer, SlotStops, ListAnswer, Answer, same, counted}
 use Rattle.rule_grammar.specs.Values.{slot_of, variable, wanted_value, never_value, literal_value, term_value, arguments_value, head_term_value, head_terms_value, adding_value, scaling_value, condition_value, all_value, negation_value, comparison_value, sum_value, product_value, unit_value, joined_value, tree_value, chain_value, part_value, round_value}
 use Rattle.rule_parser.proofs.Names.{extends_refl, extends_trans, extends_name}
 use Rattle.rule_parser.specs.Signs.{LacksBound, bound_lexeme, bounded_value}
@@ -62,7 +62,7 @@ round_over h r k (x ∷ xs) g l = refl
 pub part_bare : {ts rest : List Lexeme} {d : ℕ} {g g' : Counted} {name v : List ℕ} {vs : List Pat} → g' ≡ with_part g → Fine (with_part g) → ts ≡ t.Name name ∷ rest → Lacks sign.Open rest → v ≡ name → vs ≡ []
     → Read part_level part_value ts d g g' (plain.Atom (record { name = v; args = vs })) rest
 part_bare {ts} {rest} {d} {g} {g'} {name} {v} {vs} p f e l s n = record {
-  tree = Bare name; says = λ names q. cc (s, n); grows = subst (λ y. Extends g.names y.names) (sym p) (extends_refl g.names); fine = subst Fine (sym p) f; shorter = omega (arith, ap length e);
+  tree = Bare name; says = λ names q. cc (s, n); grows = subst (λ y. Extends g.names y.names) (sym p) (extends_refl g.names); fine = subst Fine (sym p) f; shorter = omega (arith, ap length e); counts = λ more. ap (λ y. count_all y more) (sym p);
   runs = λ c q.
     run_on g (WantPart c.0 c.1) Single (AtomName c.0 c.1 name) e refl (by_role_alone (with_part g) Single f)
     ∙ ap (λ y. run rest y (AtomName c.0 c.1 name)) (sym p) ∙ bare_resumes c.0 c.1 name rest g' l }
@@ -72,6 +72,7 @@ pub part_atom : {ts r1 r2 rest : List Lexeme} {d : ℕ} {g g1 g' : Counted} {nam
 part_atom {ts} {r1} {r2} {rest} {d} {g} {g1} {g'} {name} {v} {vs} {ws} p f e1 e2 l s n = record {
   tree = Atom name l.read.tree; says = λ names q. cc (l.read.says names q, s, n);
   grows = subst (λ y. Extends y.names g'.names) p l.read.grows; fine = l.read.fine; shorter = omega (arith, ap length e1, ap length e2, l.read.shorter, ap length l.close);
+  counts = λ more. ap (λ y. count_all y (arguments wanted 1 l.read.tree ((Quiet, t.Close) ∷ more))) (sym p) ∙ l.read.counts ((Quiet, t.Close) ∷ more);
   runs = λ c q.
     run_on g (WantPart c.0 c.1) Single (AtomName c.0 c.1 name) e1 refl (by_role_alone (with_part g) Single f)
     ∙ run_on (with_part g) (AtomName c.0 c.1 name) Quiet (InAtom (WantTerm (Outside (c.0, c.1, name)) Start)) e2 refl (quiet (with_part g) f)
@@ -86,6 +87,7 @@ pub round_bracketed : {ts r1 r2 rest : List Lexeme} {d : ℕ} {g g' : Counted} {
     → Read round_level round_value ts d g g' v rest
 round_bracketed {ts} {r1} {r2} {rest} {d} {g} {g'} f n e p l = record {
   tree = Bracketed p.tree; says = p.says; grows = p.grows; fine = p.fine; shorter = omega (arith, ap length e, p.shorter, ap length l);
+  counts = λ more. p.counts ((Quiet, t.Close) ∷ more);
   runs = λ c q.
     run_on g (WantPart c.0 c.1) (Nests (depth c.1 + 1)) (WantPart FirstPart (InRound c.0 c.1)) e refl (fits g (Nests (depth c.1 + 1)) which.Depth 32 (depth c.1 + 1) f refl (omega arith))
     ∙ p.runs (InRound c.0 c.1) (ap (λ m. m + 1) q)
@@ -101,6 +103,7 @@ pub round_more : (b : Bound) {ts r1 r2 rest : List Lexeme} {d q : ℕ} {g g1 g2 
 round_more bounds.Exact {ts} {r1} {r2} {rest} {d} {q} {g} {g1} {g2} a e p f l s = record {
   tree = Exactly a.tree q; says = λ names h. ap (λ x. plain.Exact x q) (a.says names (subst (λ y. Extends y.names names) p h)) ∙ sym s;
   grows = subst (λ y. Extends g.names y.names) (sym p) a.grows; fine = subst Fine (sym p) f; shorter = omega (arith, a.shorter, ap length e, ap length l.tokens);
+  counts = λ more. a.counts ((Single, t.Length) ∷ (Lasts q, t.Number q) ∷ more) ∙ ap (λ y. count_all y more) (sym p);
   runs = λ c h.
     a.runs c h
     ∙ resume_on g1 (step (HaveRound c.0 a.tree c.1)) Single (WantExact c.0 a.tree c.1) e refl (by_role_alone (with_part g1) Single f)
@@ -109,6 +112,7 @@ round_more bounds.Exact {ts} {r1} {r2} {rest} {d} {q} {g} {g1} {g2} a e p f l s 
 round_more bounds.Most {ts} {r1} {r2} {rest} {d} {q} {g} {g1} {g2} a e p f l s = record {
   tree = AtMost a.tree q; says = λ names h. ap (λ x. plain.Within x q) (a.says names (subst (λ y. Extends y.names names) p h)) ∙ sym s;
   grows = subst (λ y. Extends g.names y.names) (sym p) a.grows; fine = subst Fine (sym p) f; shorter = omega (arith, a.shorter, ap length e, ap length l.tokens);
+  counts = λ more. a.counts ((Binary, t.Within) ∷ (Lasts q, t.Number q) ∷ more) ∙ ap (λ y. count_all y more) (sym p);
   runs = λ c h.
     a.runs c h
     ∙ resume_on g1 (step (HaveRound c.0 a.tree c.1)) Binary (WantMost c.0 a.tree c.1) e refl (by_role_alone (with_part g1) Binary f)
@@ -117,7 +121,7 @@ round_more bounds.Most {ts} {r1} {r2} {rest} {d} {q} {g} {g1} {g2} a e p f l s =
 
 pub part_round : {ts rest : List Lexeme} {d : ℕ} {g g' : Counted} {v : PlainPattern} → Read round_level round_value ts d g g' v rest → LacksBound rest → Read part_level part_value ts d g g' v rest
 part_round {rest = rest} {g' = g'} r l = record {
-  tree = Rounded r.tree; says = r.says; grows = r.grows; fine = r.fine; shorter = r.shorter; runs = λ c q. r.runs c q ∙ round_over c.0 r.tree c.1 rest g' l }
+  tree = Rounded r.tree; says = r.says; grows = r.grows; fine = r.fine; shorter = r.shorter; counts = r.counts; runs = λ c q. r.runs c q ∙ round_over c.0 r.tree c.1 rest g' l }
 
 -- NOT: up to its first limit, up to its second, and whole.
 
@@ -140,6 +144,11 @@ part_without {ts} {r0} {r1} {r2} {r3} {r4} {r5} {r6} {r7} {rest} {d} {g} {g1} {g
   says = λ names h. cc (p.says names (extends_trans q.grows (extends_trans r.grows h)), q.says names (extends_trans r.grows h), r.says names h);
   grows = subst (λ y. Extends y.names g'.names) w (extends_trans p.grows (extends_trans q.grows r.grows)); fine = r.fine;
   shorter = omega (arith, ap length e0, ap length e1, p.shorter, ap length e2, ap length e3, q.shorter, ap length e4, r.shorter, ap length e5);
+  counts = λ more.
+    let third : List Marked = tree (d + 1) r.tree ((Quiet, t.Square) ∷ more) in
+    let second : List Marked = tree (d + 1) q.tree ((Quiet, t.Comma) ∷ third) in
+    ap (λ y. count_all y (tree (d + 1) p.tree ((Quiet, t.Close) ∷ (Nests (d + 1), t.Limits) ∷ second))) (sym w)
+    ∙ p.counts ((Quiet, t.Close) ∷ (Nests (d + 1), t.Limits) ∷ second) ∙ q.counts ((Quiet, t.Comma) ∷ third) ∙ r.counts ((Quiet, t.Square) ∷ more);
   runs = λ c m.
     without_first g e0 w f n e1 p e2 e3 c.0 c.1 m
     ∙ q.runs (InBefore c.0 p.tree c.1) (ap (λ m. m + 1) m)
@@ -165,7 +174,7 @@ abbrev pub where_link : Link tree_level condition_level t.Where
 where_link = record { next = λ k p. InWhere p k; goes = λ k p. refl; deep = λ k p. refl }
 
 pub chain_one : {ts rest : List Lexeme} {d : ℕ} {g g' : Counted} {v : PlainPattern} → Read part_level part_value ts d g g' v rest → Read chain_level chain_value ts d g g' v rest
-chain_one p = record { tree = One p.tree; says = p.says; grows = p.grows; fine = p.fine; shorter = p.shorter; runs = λ k q. p.runs (FirstPart, k) q }
+chain_one p = record { tree = One p.tree; says = p.says; grows = p.grows; fine = p.fine; shorter = p.shorter; counts = p.counts; runs = λ k q. p.runs (FirstPart, k) q }
 
 pub chain_more : {ts r1 r2 rest : List Lexeme} {d : ℕ} {g g1 g2 g' : Counted} {u v w : PlainPattern} (j : Joint) → Read chain_level chain_value ts d g g1 u r1 → r1 ≡ joint j ∷ r2 → g2 ≡ with_part g1 → Fine (with_part g1)
     → Read part_level part_value r2 d g2 g' v rest → w ≡ joined_value j u v → Read chain_level chain_value ts d g g' w rest
@@ -174,6 +183,7 @@ chain_more {ts} {r1} {r2} {rest} {d} {g} {g1} {g2} {g'} {u} {v} j a e p f b0 s =
     record {
       tree = More a.tree j b.tree; says = λ names q. cc (earlier a b names q, b.says names q, s);
       grows = extends_trans a.grows b.grows; fine = b.fine; shorter = omega (arith, a.shorter, ap length e, b.shorter);
+      counts = λ more. a.counts ((Binary, joint j) ∷ part d b.tree more) ∙ ap (λ y. count_all y (part d b.tree more)) (joint_counts g1 j) ∙ b.counts more;
       runs = λ k q. link_on (joint_link j) a e (joint_counts g1 j) f k q ∙ b.runs (NextPart a.tree j, k) q }
 
 chain_over : (k : Stack) (c : Chain) (rest : List Lexeme) (g : Counted) → LacksJoint rest → resume (behind_chain k c) rest g ≡ resume (behind k (Plain c)) rest g
@@ -184,7 +194,7 @@ chain_over k c (x ∷ xs) g l = refl
 
 pub tree_plain : {ts rest : List Lexeme} {d : ℕ} {g g' : Counted} {v : PlainPattern} → Read chain_level chain_value ts d g g' v rest → LacksJoint rest → Read tree_level tree_value ts d g g' v rest
 tree_plain {rest = rest} {g' = g'} c l = record {
-  tree = Plain c.tree; says = c.says; grows = c.grows; fine = c.fine; shorter = c.shorter; runs = λ k q. c.runs k q ∙ chain_over k c.tree rest g' l }
+  tree = Plain c.tree; says = c.says; grows = c.grows; fine = c.fine; shorter = c.shorter; counts = c.counts; runs = λ k q. c.runs k q ∙ chain_over k c.tree rest g' l }
 
 where_over : (p : Tree) (k : Stack) (c : Condition) (rest : List Lexeme) (g : Counted) → Lacks sign.Either rest → resume (behind_condition (InWhere p k) c) rest g ≡ resume (behind k (Filtered p c)) rest g
 where_over p k c [] g l = refl
@@ -198,6 +208,7 @@ tree_where {ts} {r1} {r2} {rest} {d} {g} {g1} {g2} {g'} {u} {w} {v} a e p f b0 l
     record {
       tree = Filtered a.tree b.tree; says = λ names q. cc (earlier a b names q, b.says names q, s);
       grows = extends_trans a.grows b.grows; fine = b.fine; shorter = omega (arith, a.shorter, ap length e, b.shorter);
+      counts = λ more. a.counts ((Binary, t.Where) ∷ condition d b.tree more) ∙ b.counts more;
       runs = λ k q. link_on where_link a e refl f k q ∙ b.runs (InWhere a.tree k) q ∙ where_over a.tree k b.tree rest g' l }
 
 after_stuck : (h : ChainHead) (i b : Tree) (k : Stack) (p : Tree) (rest : List Lexeme) (g : Counted) → Lacks sign.Where rest → Lacks sign.Square rest → resume (behind (InAfter h i b k) p) rest g ≡ Err (fault.Syntax (length rest))

@@ -1,6 +1,7 @@
 -- How runs go on over the tokens of terms and lists of arguments.
 use Rattle.std.proofs.Common.{◌≡◌, ℕ, ◌+◌, ◌<◌, ◌≤◌, Bool, true, false, cond, ltb, List, [], ◌∷◌, ◌++◌, length, Option, Some, None, Result, Ok, Err, w64, to_z, of_z, pos, ◌-ℤ◌, ◌^◌, refl, sym, ap, ◌∙◌, arith, subst, length-append}
 use Rattle.std.proofs.lemmas.Bool.{le-ltb}
+use Rattle.std.proofs.lemmas.Option.{same_Some}
 use Rattle.std.proofs.lemmas.Int.{to_z_pos, to_z-of_z}
 use borrow.Author.Tests.{ltb-true, ltb-false}
 use Rattle.ev_term.specs.declared.terms.Pat.{Pat}
@@ -15,9 +16,9 @@ use Rattle.rule_grammar.specs.Trees.{Literal, Literal.Digits, Literal.Minus, Lit
 use Rattle.rule_grammar.specs.Trees.{Wanted, Wanted.Variable, Wanted.Anything, HeadTerm, HeadTerm.Leading, HeadTerm.Fixed, HeadTerms, HeadTerms.FirstTerm, HeadTerms.NextTerm, Heading, Heading.Plainly, Heading.Applied}
 use Rattle.rule_grammar.specs.Trees.{Condition, Condition.OneAll, Condition.MoreAll, All, All.OneNegation, All.MoreNegation, Negation, Negation.Negated, Negation.Compared, Comparison, Comparison.OneSum, Comparison.TwoSums, Sum, Sum.OneProduct, Sum.MoreProduct, Product, Product.OneUnit, Product.MoreUnit, Unit', Unit'.Value, Unit'.Grouped}
 use Rattle.rule_grammar.specs.Trees.{Tree, Tree.Plain, Tree.Filtered, Chain, Chain.One, Chain.More, Part, Part.Bare, Part.Atom, Part.Without, Part.Rounded, Round, Round.Bracketed, Round.Exactly, Round.AtMost, Statements}
-use Rattle.rule_grammar.specs.Marks.{Role, Counted, count, passed, by_role, with_name, over}
+use Rattle.rule_grammar.specs.Marks.{Role, Marked, Counted, count, count_all, passed, by_role, with_name, over}
 use Rattle.rule_grammar.specs.Marks.{Role.Quiet, Role.Starts, Role.Single, Role.Binary, Role.Nests, Role.Deepens, Role.Counts, Role.Lists, Role.Lasts, Role.HasArity}
-use Rattle.rule_grammar.specs.Tokens.{count_of, adding, scaling, joint}
+use Rattle.rule_grammar.specs.Tokens.{literal, term, arguments, wanted, head_term, part, unit, product, negation, all, condition, chain, count_of, adding, scaling, joint}
 use Rattle.rule_grammar.specs.Lists.{Before, Before.Start, Before.Behind, Nest, Nest.Outside, Nest.Inside, ListState, ListState.WantTerm, ListState.WantDigits, ListState.HaveName, ListState.HaveTerms, Turn, Turn.Stay, Turn.Leave, Turn.Stuck, level, have, have_leaf, behind_terms, list_step, put_term}
 use Rattle.rule_grammar.specs.Machine.{ChainHead, ChainHead.FirstPart, ChainHead.NextPart, TermsHead, TermsHead.FirstOfHead, TermsHead.NextOfHead, put, put_head, Stack, Stack.Body, Stack.InRound, Stack.InNot, Stack.InBefore, Stack.InAfter, Where', Where'.InWhere, Where'.InGroup, OrHead, OrHead.FirstAll, OrHead.NextAll, AndHead, AndHead.FirstNegation, AndHead.NextNegation, NotHead, NotHead.NoBang, NotHead.Bang, CompareHead, CompareHead.FirstSum, CompareHead.SecondSum, SumHead, SumHead.FirstProduct, SumHead.NextProduct, ProductHead, ProductHead.FirstUnit, ProductHead.NextUnit}
 use Rattle.rule_grammar.specs.Machine.{State, State.Between, State.HeadName, State.WantHeadTerm, State.HeadMinus, State.HeadWord, State.HaveHeadTerms, State.InHead, State.HaveHead, State.WantItem, State.ItemName, State.ItemSlash, State.HaveItems, State.WantPart, State.AtomName, State.InAtom, State.WantOpen, State.WantLimits, State.HavePart, State.HaveRound, State.WantExact, State.WantMost, State.WantNegation, State.WantUnit, State.UnitMinus, State.UnitName, State.InOperand, State.HaveProduct}
@@ -28,7 +29,7 @@ use Rattle.rule_parser.specs.declared.signs.Sign.TheVariants as sign
 use Rattle.rule_parser.specs.declared.terms.Kind.{Kind}
 use Rattle.rule_parser.specs.declared.terms.Kind.TheVariants.{Ground, Operand, Argument}
 use Rattle.rule_parser.specs.Signs.{Lacks, LacksJoint, LacksAdding, LacksScaling, LacksCompare}
-use Rattle.rule_parser.specs.Steps.{Fine, with_variable, with_part, Extends, Fails, resume, Level, Runs, Read, Leaves, Place, base, leaf_read, in_list, turn_of, leaf_value, term_of, terms_of, term_level, terms_level, ListRead, word_tokens, IsNoSymbol, LacksWord, LacksDigits, WordRead, WordFails, WordAnswer, NegativeAnswer, LeafRead, LeafFails, LeafAnswer, SlotStops, ListAnswer, Answer, same, counted}
+use Rattle.rule_parser.specs.Steps.{Fine, with_variable, with_part, Extends, Fails, resume, Level, Runs, Read, Leaves, Place, base, leaf_read, leaf_lexeme, in_list, turn_of, leaf_value, term_of, terms_of, term_level, terms_level, ListRead, word_tokens, IsNoSymbol, LacksWord, LacksDigits, WordRead, WordFails, WordAnswer, NegativeAnswer, LeafRead, LeafFails, LeafAnswer, SlotStops, ListAnswer, Answer, same, counted}
 use Rattle.rule_grammar.specs.Values.{slot_of, variable, wanted_value, never_value, literal_value, term_value, arguments_value, head_term_value, head_terms_value, adding_value, scaling_value, condition_value, all_value, negation_value, comparison_value, sum_value, product_value, unit_value, joined_value, tree_value, chain_value, part_value, round_value}
 use Rattle.rule_parser.proofs.Names.{extends_refl, extends_trans, extends_name}
 
@@ -158,9 +159,16 @@ word_shorter Least ts rest e = omega (arith, ap length e)
 word_shorter (Symbol name) ts rest e = omega (arith, ap length e)
 word_shorter (Quoted text) ts rest e = omega (arith, ap length e)
 
+word_counts : (l : Literal) (g : Counted) (more : List Marked) → count_all g (literal Quiet l more) ≡ count_all g more
+word_counts (Digits m) g more = refl
+word_counts (Minus m) g more = refl
+word_counts Least g more = refl
+word_counts (Symbol name) g more = refl
+word_counts (Quoted text) g more = refl
+
 pub term_word : (k : Kind) {ts rest : List Lexeme} {d : ℕ} {g : Counted} {v : Pat} → Fine g → WordRead ts v rest → Read (term_level k) (term_of k) ts d g g v rest
 term_word k {ts} {rest} {d} {g} {v} f w = record {
-  tree = Lone w.literal; says = λ names e. w.says; grows = extends_refl g.names; fine = f; shorter = word_shorter w.literal ts rest w.tokens;
+  tree = Lone w.literal; says = λ names e. w.says; grows = extends_refl g.names; fine = f; shorter = word_shorter w.literal ts rest w.tokens; counts = word_counts w.literal g;
   runs = λ c q. word_runs k w.literal ts rest g f w.no_symbol w.tokens c.0 c.1 }
 
 digits_stuck : (k : Kind) (rest : List Lexeme) (g : Counted) (n : Nest (Leaves k) (Place k)) (b : Before (Leaves k)) → LacksDigits rest → run rest g (in_list k (WantDigits n b)) ≡ Err (fault.Syntax (length rest))
@@ -202,9 +210,18 @@ leaf_stays k (t.Name name) w n b e = at k e
     at Argument e = cc
 leaf_stays k x w n b e = ap (have_leaf n b) e
 
+leaf_spelled : (k : Kind) (x : Lexeme) (w : Leaves k) → leaf_read k x ≡ Some w → x ≡ leaf_lexeme k w
+leaf_spelled Ground x w e = absurd w
+leaf_spelled Operand (t.Var name) w e = ap t.Var (same_Some name w e)
+leaf_spelled Operand x w e = cc
+leaf_spelled Argument (t.Var name) w e = ap wanted (same_Some (Variable name) w e)
+leaf_spelled Argument t.Wild w e = ap wanted (same_Some Anything w e)
+leaf_spelled Argument x w e = cc
+
 pub term_leaf : (k : Kind) {ts rest : List Lexeme} {x : Lexeme} {d : ℕ} {g g' : Counted} {v : Pat} → ts ≡ x ∷ rest → LeafRead k x g g' v → Read (term_level k) (term_of k) ts d g g' v rest
 term_leaf k {ts} {rest} {x} {d} {g} {g'} {v} e w = record {
   tree = Leaf w.leaf; says = w.says; grows = w.grows; fine = w.fine; shorter = omega (arith, ap length e);
+  counts = λ more. ap (λ h. count_all h more) (ap (λ y. count g (Quiet, y)) (sym (leaf_spelled k x w.leaf w.reads)) ∙ w.counts);
   runs = λ c q.
     list_on k g (WantTerm c.0 c.1) (HaveTerms c.0 (put_term c.1 (Leaf w.leaf))) Quiet e (leaf_stays k x w.leaf c.0 c.1 w.reads) (ap (λ h. passed h Quiet) w.counts ∙ quiet g' w.fine)
     ∙ ap (λ h. run rest h (in_list k (HaveTerms c.0 (put_term c.1 (Leaf w.leaf))))) w.counts ∙ have_resumes k rest g' c.0 _ }
@@ -238,7 +255,7 @@ term_ended k {ts} {d} g e c p = ap (λ l. run l g (in_list k (WantTerm c.0 c.1))
 pub term_symbol : (k : Kind) {ts rest : List Lexeme} {d : ℕ} {g : Counted} {name v : List ℕ} → Fine g → ts ≡ t.Name name ∷ rest → Lacks sign.Open rest → v ≡ name
     → Read (term_level k) (term_of k) ts d g g (pat.Sym v) rest
 term_symbol k {ts} {rest} {d} {g} {name} {v} f e h same = record {
-  tree = Lone (Symbol name); says = λ names q. ap pat.Sym (sym same); grows = extends_refl g.names; fine = f; shorter = omega (arith, ap length e);
+  tree = Lone (Symbol name); says = λ names q. ap pat.Sym (sym same); grows = extends_refl g.names; fine = f; shorter = omega (arith, ap length e); counts = λ more. refl;
   runs = λ c q. list_on k g (WantTerm c.0 c.1) (HaveName c.0 c.1 name) Quiet e refl (quiet g f) ∙ name_resumes k rest g c.0 c.1 name h }
 
 pub term_compound : (k : Kind) {ts r1 r2 rest : List Lexeme} {d : ℕ} {g g' : Counted} {name v : List ℕ} {vs : List Pat} → Fine g → d + 1 ≤ 16 → ts ≡ t.Name name ∷ r1 → r1 ≡ t.Open ∷ r2
@@ -246,6 +263,7 @@ pub term_compound : (k : Kind) {ts r1 r2 rest : List Lexeme} {d : ℕ} {g g' : C
 term_compound k {ts} {r1} {r2} {rest} {d} {g} {g'} {name} {v} {vs} f h e1 e2 l same = record {
   tree = Compound name l.read.tree; says = λ names q. ap (λ n. pat.Comp n (terms_of k names l.read.tree)) (sym same) ∙ ap (pat.Comp v) (l.read.says names q);
   grows = l.read.grows; fine = l.read.fine; shorter = omega (arith, ap length e1, ap length e2, l.read.shorter, ap length l.close);
+  counts = λ more. l.read.counts ((Quiet, t.Close) ∷ more);
   runs = λ c q.
     list_on k g (WantTerm c.0 c.1) (HaveName c.0 c.1 name) Quiet e1 refl (quiet g f)
     ∙ list_on k g (HaveName c.0 c.1 name) (WantTerm (Inside c.0 c.1 name) Start) (Deepens (level (base k) c.0 + 1)) e2 refl
@@ -274,7 +292,7 @@ compound_fails k {ts} {r1} {r2} {d} {g} {name} e f h e1 e2 fails c q =
 
 pub terms_one : (k : Kind) {ts rest : List Lexeme} {d : ℕ} {g g' : Counted} {v : Pat} {vs : List Pat} → Read (term_level k) (term_of k) ts d g g' v rest → vs ≡ v ∷ [] → Read (terms_level k) (terms_of k) ts d g g' vs rest
 terms_one k {vs = vs} a e = record {
-  tree = First a.tree; says = λ names q. ap (λ x. x ∷ []) (a.says names q) ∙ sym e; grows = a.grows; fine = a.fine; shorter = a.shorter; runs = λ n q. a.runs (n, Start) q }
+  tree = First a.tree; says = λ names q. ap (λ x. x ∷ []) (a.says names q) ∙ sym e; grows = a.grows; fine = a.fine; shorter = a.shorter; counts = a.counts; runs = λ n q. a.runs (n, Start) q }
 
 length_terms : (k : Kind) (names : List (List ℕ)) (as' : Arguments (Leaves k)) → length (terms_of k names as') ≡ count_of as'
 length_terms k names (First a) = refl
@@ -292,6 +310,7 @@ terms_more k {ts} {r1} {r2} {rest} {d} {g} {g1} {g'} {vs} {ws} {v} a h e b same 
   tree = Next a.tree b.tree;
   says = λ names q. ap (λ l. l ++ term_of k names b.tree ∷ []) (a.says names (extends_trans b.grows q)) ∙ ap (λ x. vs ++ x ∷ []) (b.says names q) ∙ sym same;
   grows = extends_trans a.grows b.grows; fine = b.fine; shorter = omega (arith, a.shorter, ap length e, b.shorter);
+  counts = λ more. a.counts ((Counts (count_of a.tree + 1), t.Comma) ∷ term (leaf_lexeme k) Quiet d b.tree more) ∙ b.counts more;
   runs = λ n q.
     a.runs n q
     ∙ resume_on g1 (λ x. turn_of k (behind_terms n a.tree x)) (Counts (count_of a.tree + 1)) (in_list k (WantTerm n (Behind a.tree))) e (comma_on k n a.tree)

@@ -16,9 +16,10 @@ use Rattle.rule_grammar.specs.declared.faults.Which.TheVariants as which
 use Rattle.rule_grammar.specs.declared.faults.Fault.{Fault}
 use Rattle.rule_grammar.specs.declared.faults.Fault.TheVariants as fault
 use Rattle.rule_grammar.specs.Trees.{Literal, Literal.Digits, Literal.Minus, Literal.Least, Literal.Symbol, Literal.Quoted, Term, Arguments, Wanted, Wanted.Variable, Wanted.Anything, HeadTerm, HeadTerms, Heading, Condition, All, Negation, Comparison, Sum, Product, Unit', Tree, Chain, Part, Round, Statements}
-use Rattle.rule_grammar.specs.Marks.{Role, Counted, count, passed, with_name, with_parts}
+use Rattle.rule_grammar.specs.Marks.{Role, Marked, Counted, count, count_all, passed, with_name, with_parts}
 use Rattle.rule_grammar.specs.Marks.{Role.Quiet, Role.Single, Role.Binary}
 use Rattle.rule_grammar.specs.Values.{slot_of, variable, wanted_value, never_value, literal_value, term_value, arguments_value, head_term_value, head_terms_value, condition_value, all_value, negation_value, comparison_value, sum_value, product_value, unit_value, tree_value, chain_value, part_value, round_value}
+use Rattle.rule_grammar.specs.Tokens.{never, wanted, term, arguments, head_term, condition, all, negation, comparison, sum, product, unit, tree, chain, part, round}
 use Rattle.rule_grammar.specs.Lists.{Before, Before.Start, Nest, ListState, ListState.WantTerm, ListState.HaveName, Turn, level, behind_terms, put_term}
 use Rattle.rule_grammar.specs.Machine.{ChainHead, ChainHead.FirstPart, TermsHead, Stack, Where', OrHead, AndHead.FirstNegation, NotHead, NotHead.NoBang, CompareHead, SumHead, ProductHead, ProductHead.FirstUnit, CompareHead.FirstSum, AtomPlace, OperandPlace, HeadPlace, State, State.InHead, State.InAtom, State.InOperand, State.WantPart, State.WantOpen, State.AtomName, State.HaveRound, State.WantNegation, State.WantUnit, State.UnitName, State.WantHeadTerm, State.HeadWord}
 use Rattle.rule_grammar.specs.Machine.{Step, to, put, put_head, depth, where_depth, or_depth, not_depth, compare_depth, sum_depth, product_depth, have_unit, over_negation, first_all, first_unit, behind, behind_chain, behind_condition, behind_all, behind_negation, behind_comparison, behind_all_products, behind_product, behind_unit, behind_head_terms, reads_nothing, reads_wanted, reads_variable, in_head, in_atom, in_operand, step, onward, run}
@@ -58,9 +59,10 @@ abbrev pub resume : (Lexeme → Step) → List Lexeme → Counted → Result Sta
 resume b [] g = Err (fault.Syntax 0)
 resume b (x ∷ xs) g = onward (run xs) (x ∷ xs) g x (b x)
 
--- a kind of tree: the contexts in which one can stand, how deep inside of brackets they are, the state that wants one, and how
--- a token behind it is met
+-- a kind of tree: its tokens, the contexts in which one can stand, how deep inside of brackets they are, the state that wants
+-- one, and how a token behind it is met
 pub record Level (C T : Type 0) : Type 0 where
+  pub tokens : ℕ → T → List Marked → List Marked
   pub depth : C → ℕ
   pub state : C → State
   pub behind : C → T → Lexeme → Step
@@ -76,6 +78,7 @@ pub record Read {C T V : Type 0} (L : Level C T) (value : List (List ℕ) → T 
   pub grows : Extends g.names g'.names
   pub fine : Fine g'
   pub shorter : length rest < length ts
+  pub counts : (more : List Marked) → count_all g (L.tokens d tree more) ≡ count_all g' more
   pub runs : Runs L ts d g tree g' rest
 
 -- it is read, or the machine stops with this fault under every context
@@ -134,6 +137,11 @@ leaf_value Ground names w = never_value w
 leaf_value Operand names w = variable names w
 leaf_value Argument names w = wanted_value names w
 
+abbrev pub leaf_lexeme : (k : Kind) → Leaves k → Lexeme
+leaf_lexeme Ground w = never w
+leaf_lexeme Operand w = t.Var w
+leaf_lexeme Argument w = wanted w
+
 abbrev pub term_of : (k : Kind) → List (List ℕ) → Term (Leaves k) → Pat
 term_of k names a = term_value (leaf_value k names) a
 
@@ -145,6 +153,7 @@ Within k = Nest (Leaves k) (Place k) × Before (Leaves k)
 
 abbrev pub term_level : (k : Kind) → Level (Within k) (Term (Leaves k))
 term_level k = record {
+    tokens = λ d a more. term (leaf_lexeme k) Quiet d a more;
     depth = λ c. level (base k) c.0;
     state = λ c. in_list k (WantTerm c.0 c.1);
     behind = λ c a x. turn_of k (behind_terms c.0 (put_term c.1 a) x) }
@@ -152,6 +161,7 @@ term_level k = record {
 -- arguments without the bracket that closes their list
 abbrev pub terms_level : (k : Kind) → Level (Nest (Leaves k) (Place k)) (Arguments (Leaves k))
 terms_level k = record {
+    tokens = λ d as' more. arguments (leaf_lexeme k) d as' more;
     depth = λ n. level (base k) n;
     state = λ n. in_list k (WantTerm n Start);
     behind = λ n as' x. turn_of k (behind_terms n as' x) }
@@ -250,25 +260,25 @@ begins_word t.Minus = true
 begins_word x = false
 
 abbrev pub unit_level : Level ProductHead Unit'
-unit_level = record { depth = product_depth; state = WantUnit; behind = λ h u x. behind_unit (have_unit h u) x }
+unit_level = record { tokens = unit; depth = product_depth; state = WantUnit; behind = λ h u x. behind_unit (have_unit h u) x }
 
 abbrev pub product_level : Level SumHead Product
-product_level = record { depth = sum_depth; state = λ h. WantUnit (FirstUnit h); behind = behind_product }
+product_level = record { tokens = product; depth = sum_depth; state = λ h. WantUnit (FirstUnit h); behind = behind_product }
 
 abbrev pub sum_level : Level CompareHead Sum
-sum_level = record { depth = compare_depth; state = λ c. WantUnit (first_unit c); behind = λ c s x. behind_all_products (c, s) x }
+sum_level = record { tokens = sum; depth = compare_depth; state = λ c. WantUnit (first_unit c); behind = λ c s x. behind_all_products (c, s) x }
 
 abbrev pub comparison_level : Level NotHead Comparison
-comparison_level = record { depth = not_depth; state = λ n. WantUnit (first_unit (FirstSum n)); behind = behind_comparison }
+comparison_level = record { tokens = comparison; depth = not_depth; state = λ n. WantUnit (first_unit (FirstSum n)); behind = behind_comparison }
 
 abbrev pub negation_level : Level NotHead Negation
-negation_level = record { depth = not_depth; state = WantNegation; behind = λ h n x. behind_negation (over_negation h n).0 (over_negation h n).1 x }
+negation_level = record { tokens = negation; depth = not_depth; state = WantNegation; behind = λ h n x. behind_negation (over_negation h n).0 (over_negation h n).1 x }
 
 abbrev pub all_level : Level OrHead All
-all_level = record { depth = or_depth; state = λ o. WantNegation (NoBang (FirstNegation o)); behind = behind_all }
+all_level = record { tokens = all; depth = or_depth; state = λ o. WantNegation (NoBang (FirstNegation o)); behind = behind_all }
 
 abbrev pub condition_level : Level Where' Condition
-condition_level = record { depth = where_depth; state = λ w. WantNegation (first_all w); behind = behind_condition }
+condition_level = record { tokens = condition; depth = where_depth; state = λ w. WantNegation (first_all w); behind = behind_condition }
 
 -- Patterns.
 
@@ -279,16 +289,16 @@ abbrev pub PartPlace : Type 0
 PartPlace = ChainHead × Stack
 
 abbrev pub part_level : Level PartPlace Part
-part_level = record { depth = λ c. depth c.1; state = λ c. WantPart c.0 c.1; behind = λ c p x. behind_chain c.1 (put c.0 p) x }
+part_level = record { tokens = part; depth = λ c. depth c.1; state = λ c. WantPart c.0 c.1; behind = λ c p x. behind_chain c.1 (put c.0 p) x }
 
 abbrev pub round_level : Level PartPlace Round
-round_level = record { depth = λ c. depth c.1; state = λ c. WantPart c.0 c.1; behind = λ c r x. step (HaveRound c.0 r c.1) x }
+round_level = record { tokens = round; depth = λ c. depth c.1; state = λ c. WantPart c.0 c.1; behind = λ c r x. step (HaveRound c.0 r c.1) x }
 
 abbrev pub chain_level : Level Stack Chain
-chain_level = record { depth = depth; state = WantPart FirstPart; behind = behind_chain }
+chain_level = record { tokens = chain; depth = depth; state = WantPart FirstPart; behind = behind_chain }
 
 abbrev pub tree_level : Level Stack Tree
-tree_level = record { depth = depth; state = WantPart FirstPart; behind = behind }
+tree_level = record { tokens = tree; depth = depth; state = WantPart FirstPart; behind = behind }
 
 -- Lengths.
 
@@ -321,7 +331,4 @@ abbrev pub HeadTermPlace : Type 0
 HeadTermPlace = Statements × List ℕ × TermsHead
 
 abbrev pub head_term_level : Level HeadTermPlace HeadTerm
-head_term_level = record { depth = λ c. 0; state = λ c. WantHeadTerm c.0 c.1 c.2; behind = λ c a x. behind_head_terms c.0 c.1 (put_head c.2 a) x }
-
-abbrev pub named_head_term_level : List ℕ → Level HeadTermPlace HeadTerm
-named_head_term_level w = record { depth = λ c. 0; state = λ c. HeadWord c.0 c.1 c.2 w; behind = λ c a x. behind_head_terms c.0 c.1 (put_head c.2 a) x }
+head_term_level = record { tokens = λ d a more. head_term a more; depth = λ c. 0; state = λ c. WantHeadTerm c.0 c.1 c.2; behind = λ c a x. behind_head_terms c.0 c.1 (put_head c.2 a) x }
