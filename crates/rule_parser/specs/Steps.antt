@@ -1,12 +1,16 @@
 -- What a function that reads tokens gives, under every context in which they can stand.
-use Rattle.std.specs.Prelude.{◌≡◌, ℕ, ◌+◌, ◌^◌, ◌<◌, ◌≤◌, Bool, true, false, List, [], ◌∷◌, ◌++◌, length, Option, Some, None, Result, Ok, Err}
+use Rattle.std.specs.Prelude.{◌≡◌, ℕ, ◌+◌, ◌^◌, ◌<◌, ◌≤◌, Bool, true, false, List, [], ◌∷◌, ◌++◌, length, map, Option, Some, None, Result, Ok, Err}
 use Rattle.std.specs.List.{list_any}
 use Rattle.std.specs.Str.{bytes_eq}
 use Rattle.std.specs.Prelude.{Box}
 use Rattle.std.specs.Borrow.{Bor}
 use Rattle.rule_ast.specs.declared.patterns.Pattern.{Pattern}
-use Rattle.rule_ast.specs.Trees.{PlainPattern}
-use Rattle.rule_ast.specs.Plain.{plain_pattern}
+use Rattle.ev_term.specs.declared.atoms.PatAtom.{PatAtom}
+use Rattle.ev_term.specs.declared.atoms.NameArity.{NameArity}
+use Rattle.rule_ast.specs.declared.statements.Statement as declared
+use Rattle.rule_ast.specs.declared.statements.Rule.{Rule}
+use Rattle.rule_ast.specs.Trees.{PlainPattern, PlainStatement, Clause, Show}
+use Rattle.rule_ast.specs.Plain.{plain_pattern, plain_rule, plain_statement}
 use Rattle.std.specs.declared.vec.Vec.{Vec}
 use Rattle.ev_term.specs.declared.terms.Pat.{Pat}
 use Rattle.rule_tokens.specs.declared.lexemes.Lexeme.{Lexeme}
@@ -15,13 +19,13 @@ use Rattle.rule_grammar.specs.declared.faults.Which.{Which}
 use Rattle.rule_grammar.specs.declared.faults.Which.TheVariants as which
 use Rattle.rule_grammar.specs.declared.faults.Fault.{Fault}
 use Rattle.rule_grammar.specs.declared.faults.Fault.TheVariants as fault
-use Rattle.rule_grammar.specs.Trees.{Literal, Literal.Digits, Literal.Minus, Literal.Least, Literal.Symbol, Literal.Quoted, Term, Arguments, Wanted, Wanted.Variable, Wanted.Anything, HeadTerm, HeadTerms, Heading, Condition, All, Negation, Comparison, Sum, Product, Unit', Tree, Chain, Part, Round, Statements}
-use Rattle.rule_grammar.specs.Marks.{Role, Marked, Counted, count, count_all, passed, with_name, with_parts}
+use Rattle.rule_grammar.specs.Trees.{Literal, Literal.Digits, Literal.Minus, Literal.Least, Literal.Symbol, Literal.Quoted, Term, Arguments, Wanted, Wanted.Variable, Wanted.Anything, HeadTerm, HeadTerms, Heading, Condition, All, Negation, Comparison, Sum, Product, Unit', Tree, Chain, Part, Round, Items, Statement, Statements, Statements.Empty, Statements.Then}
+use Rattle.rule_grammar.specs.Marks.{Role, Marked, Counted, nothing_counted, count, count_all, passed, with_name, with_parts}
 use Rattle.rule_grammar.specs.Marks.{Role.Quiet, Role.Single, Role.Binary}
-use Rattle.rule_grammar.specs.Values.{slot_of, variable, wanted_value, never_value, literal_value, term_value, arguments_value, head_term_value, head_terms_value, condition_value, all_value, negation_value, comparison_value, sum_value, product_value, unit_value, tree_value, chain_value, part_value, round_value}
-use Rattle.rule_grammar.specs.Tokens.{never, wanted, term, arguments, head_term, condition, all, negation, comparison, sum, product, unit, tree, chain, part, round}
+use Rattle.rule_grammar.specs.Values.{slot_of, variable, wanted_value, never_value, literal_value, term_value, arguments_value, head_term_value, head_terms_value, condition_value, all_value, negation_value, comparison_value, sum_value, product_value, unit_value, tree_value, chain_value, part_value, round_value, heading_value, items_value, statement_value, text_value}
+use Rattle.rule_grammar.specs.Tokens.{never, wanted, term, arguments, head_term, head_terms, heading, number_of, condition, all, negation, comparison, sum, product, unit, tree, chain, part, round}
 use Rattle.rule_grammar.specs.Lists.{Before, Before.Start, Nest, ListState, ListState.WantTerm, ListState.HaveName, Turn, level, behind_terms, put_term}
-use Rattle.rule_grammar.specs.Machine.{ChainHead, ChainHead.FirstPart, TermsHead, Stack, Where', OrHead, AndHead.FirstNegation, NotHead, NotHead.NoBang, CompareHead, SumHead, ProductHead, ProductHead.FirstUnit, CompareHead.FirstSum, AtomPlace, OperandPlace, HeadPlace, State, State.InHead, State.InAtom, State.InOperand, State.WantPart, State.WantOpen, State.AtomName, State.HaveRound, State.WantNegation, State.WantUnit, State.UnitName, State.WantHeadTerm, State.HeadWord}
+use Rattle.rule_grammar.specs.Machine.{ChainHead, ChainHead.FirstPart, TermsHead, TermsHead.FirstOfHead, ItemsHead, ItemsHead.FirstShown, Stack, Stack.Body, Where', OrHead, AndHead.FirstNegation, NotHead, NotHead.NoBang, CompareHead, SumHead, ProductHead, ProductHead.FirstUnit, CompareHead.FirstSum, AtomPlace, OperandPlace, HeadPlace, State, State.InHead, State.InAtom, State.InOperand, State.WantPart, State.WantOpen, State.AtomName, State.HaveRound, State.WantNegation, State.WantUnit, State.UnitName, State.WantHeadTerm, State.HeadWord, State.Between, State.HeadName, State.WantItem, State.HaveItems}
 use Rattle.rule_grammar.specs.Machine.{Step, to, put, put_head, depth, where_depth, or_depth, not_depth, compare_depth, sum_depth, product_depth, have_unit, over_negation, first_all, first_unit, behind, behind_chain, behind_condition, behind_all, behind_negation, behind_comparison, behind_all_products, behind_product, behind_unit, behind_head_terms, reads_nothing, reads_wanted, reads_variable, in_head, in_atom, in_operand, step, onward, run}
 use Rattle.rule_parser.specs.declared.faults.Stop.{Stop}
 use Rattle.rule_parser.specs.declared.faults.Stop.TheVariants as stop
@@ -332,3 +336,97 @@ HeadTermPlace = Statements × List ℕ × TermsHead
 
 abbrev pub head_term_level : Level HeadTermPlace HeadTerm
 head_term_level = record { tokens = λ d a more. head_term a more; depth = λ c. 0; state = λ c. WantHeadTerm c.0 c.1 c.2; behind = λ c a x. behind_head_terms c.0 c.1 (put_head c.2 a) x }
+
+abbrev pub head_terms_level : Level (Statements × List ℕ) HeadTerms
+head_terms_level = record { tokens = λ d as' more. head_terms as' more; depth = λ c. 0; state = λ c. WantHeadTerm c.0 c.1 FirstOfHead; behind = λ c as' x. behind_head_terms c.0 c.1 as' x }
+
+-- terms of a head were read, and the bracket behind them
+pub record HeadListRead (ts : List Lexeme) (g g' : Counted) (vs : List Pat) (rest : List Lexeme) : Type 0 where
+  pub closed : List Lexeme
+  pub close : closed ≡ t.Close ∷ rest
+  pub read : Read head_terms_level head_terms_value ts 0 g g' vs closed
+
+abbrev pub HeadListAnswer : {Z : Type 0} → List Lexeme → Counted → Counted → Result (Vec Pat Z × Bor (List Lexeme)) Stop → Type 0
+HeadListAnswer ts g g' (Ok x) = HeadListRead ts g g' x.0.items x.1.now
+HeadListAnswer ts g g' (Err e) = (c : Statements × List ℕ) → Fails e (run ts g (WantHeadTerm c.0 c.1 FirstOfHead))
+
+-- A head was read behind its name, and the arrow behind it.
+pub record HeadRead (name : List ℕ) (ts : List Lexeme) (g : Counted) (v : PatAtom) (rest : List Lexeme) : Type 0 where
+  pub head : Heading
+  pub says : (names : List (List ℕ)) → Extends g.names names → heading_value names head ≡ v
+  pub fine : Fine g
+  pub shorter : length rest < length ts
+  pub counts : (g0 : Counted) (n : ℕ) (more : List Marked) → count_all g0 (heading n head ((Quiet, t.Arrow) ∷ more)) ≡ count_all g more
+  pub runs : (ss : Statements) → run ts nothing_counted (HeadName ss name) ≡ run rest g (WantPart FirstPart (Body ss head))
+
+abbrev pub HeadAnswer : List ℕ → List Lexeme → Counted → Result (PatAtom × Bor (List Lexeme)) Stop → Type 0
+HeadAnswer name ts g (Ok x) = HeadRead name ts g x.0 x.1.now
+HeadAnswer name ts g (Err e) = (ss : Statements) → Fails e (run ts nothing_counted (HeadName ss name))
+
+-- A statement was read, from some state behind its first token on.
+pub record StatementRead (state : Statements → State) (ts : List Lexeme) (v : PlainStatement) (rest : List Lexeme) : Type 0 where
+  pub statement : Statement
+  pub after : Counted
+  pub says : statement_value statement ≡ v
+  pub shorter : length rest < length ts
+  pub runs : (ss : Statements) → run ts nothing_counted (state ss) ≡ run rest after (Between (Then ss statement))
+
+abbrev pub StatementAnswer : {R : Type 0} → (R → PlainStatement) → (Statements → State) → List Lexeme → Result (R × Bor (List Lexeme)) Stop → Type 0
+StatementAnswer plain state ts (Ok x) = StatementRead state ts (plain x.0) x.1.now
+StatementAnswer plain state ts (Err e) = (ss : Statements) → Fails e (run ts nothing_counted (state ss))
+
+abbrev pub clause_of : Rule → PlainStatement
+clause_of r = Clause (plain_rule r)
+
+abbrev pub show_of : {Z : Type 0} → Vec NameArity Z → PlainStatement
+show_of names = Show names.items
+
+abbrev pub named_state : List ℕ → Statements → State
+named_state name ss = HeadName ss name
+
+abbrev pub shown_state : Statements → State
+shown_state ss = WantItem ss FirstShown
+
+-- A shown name was read.
+pub record ItemRead (ts : List Lexeme) (v : NameArity) (rest : List Lexeme) : Type 0 where
+  pub few : v.arity ≤ 16
+  pub tokens : ts ≡ t.Name v.name ∷ t.Slash ∷ t.Number v.arity ∷ rest
+
+abbrev pub ItemAnswer : List Lexeme → Result (NameArity × Bor (List Lexeme)) Stop → Type 0
+ItemAnswer ts (Ok x) = ItemRead ts x.0 x.1.now
+ItemAnswer ts (Err e) = (ss : Statements) (h : ItemsHead) → Fails e (run ts nothing_counted (WantItem ss h))
+
+pub record ItemsRead (ts : List Lexeme) (vs : List NameArity) (rest : List Lexeme) : Type 0 where
+  pub items : Items
+  pub says : items_value items ≡ vs
+  pub shorter : length rest < length ts
+  pub runs : (ss : Statements) → run ts nothing_counted (WantItem ss FirstShown) ≡ run rest nothing_counted (HaveItems ss items)
+
+-- The statement that stands first, behind so many.
+pub record NextRead (ts : List Lexeme) (n : ℕ) (v : PlainStatement) (rest : List Lexeme) : Type 0 where
+  pub statement : Statement
+  pub after : Counted
+  pub says : statement_value statement ≡ v
+  pub shorter : length rest < length ts
+  pub runs : (ss : Statements) (g : Counted) → number_of ss ≡ n → run ts g (Between ss) ≡ run rest after (Between (Then ss statement))
+
+abbrev pub NextAnswer : List Lexeme → ℕ → Result (declared.Statement × Bor (List Lexeme)) Stop → Type 0
+NextAnswer ts n (Ok x) = NextRead ts n (plain_statement x.0) x.1.now
+NextAnswer ts n (Err e) = (ss : Statements) (g : Counted) → number_of ss ≡ n → Fails e (run ts g (Between ss))
+
+-- the statements so far, and the tokens that are left
+pub record FileRead (ts : List Lexeme) (vs : List declared.Statement) (rest : List Lexeme) : Type 0 where
+  pub tree : Statements
+  pub after : Counted
+  pub says : text_value tree ≡ map plain_statement vs
+  pub many : number_of tree ≡ length vs
+  pub runs : run ts nothing_counted (Between Empty) ≡ run rest after (Between tree)
+
+pub record WholeRead (ts : List Lexeme) (vs : List declared.Statement) : Type 0 where
+  pub tree : Statements
+  pub says : text_value tree ≡ map plain_statement vs
+  pub runs : run ts nothing_counted (Between Empty) ≡ Ok tree
+
+abbrev pub WholeAnswer : {Z : Type 0} → List Lexeme → Result (Vec declared.Statement Z) Stop → Type 0
+WholeAnswer ts (Ok v) = WholeRead ts v.items
+WholeAnswer ts (Err e) = Fails e (run ts nothing_counted (Between Empty))

@@ -1,0 +1,121 @@
+//! Statements of a rule file.
+
+ghost use Rattle.std.specs.Prelude.{◌≡◌, ◌≤◌, List};
+ghost use Rattle.rule_ast.specs.Plain.{plain_rule};
+ghost use Rattle.rule_grammar.specs.Machine.{State.HeadName, State.WantItem, ItemsHead.FirstShown};
+ghost use Rattle.rule_parser.specs.Steps.{StatementAnswer, ItemAnswer, NextAnswer, WholeAnswer, clause_of, show_of, named_state, shown_state};
+
+use crate::faults::Stop;
+use crate::heads::head_at;
+use crate::ledger::Ledger;
+use crate::patterns::pattern_at;
+use crate::signs::{Sign, expect, limit, skip, syntax, take_first};
+use ev_term::{Name, NameArity};
+use rule_ast::{Rule, Statement};
+use rule_grammar::Which;
+use rule_tokens::Lexeme;
+use std::alloc::Global;
+
+const WIDEST: u64 = 16;
+const MOST: usize = 1024;
+
+// The rule whose head's name stood before.
+fn rule_at<'a>(
+    alloc: Global,
+    name: &Name,
+    tokens: &'a [Lexeme],
+) -> Result<(Rule, &'a [Lexeme]), Stop>
+    ensures { StatementAnswer clause_of (named_state name.now) tokens.now result }
+{
+    let mut ledger = Ledger {
+        parts: 0,
+        names: Vec::new(alloc),
+    };
+    let (head, rest) = head_at(alloc, name, tokens, &mut ledger)?;
+    let (body, rest) = pattern_at(alloc, rest, 0, &mut ledger)?;
+    let rest = expect(rest, Sign::End)?;
+    let body = Box::into_inner(body);
+    let Ledger { parts: _, names } = ledger;
+    let rule = Rule {
+        head,
+        body,
+        vars: names,
+    };
+    Ok((rule, rest))
+}
+
+// A shown name with its number of arguments.
+fn item_at(tokens: &[Lexeme]) -> Result<(NameArity, &[Lexeme]), Stop>
+    ensures { ItemAnswer tokens.now result }
+{
+    let Some((Lexeme::Name(name), rest)) = take_first(tokens) else {
+        return Err(syntax(tokens));
+    };
+    let rest = expect(rest, Sign::Slash)?;
+    let Some((Lexeme::Number(n), behind)) = take_first(rest) else {
+        return Err(syntax(rest));
+    };
+    let arity = n.value();
+    if arity > WIDEST {
+        return Err(limit(Which::TermWidth, rest));
+    }
+    let name = name.share()?;
+    let arity = arity as u8;
+    Ok((NameArity { name, arity }, behind))
+}
+
+// The names of a `show`, whose word stood before.
+fn show_at(alloc: Global, tokens: &[Lexeme]) -> Result<(Vec<NameArity>, &[Lexeme]), Stop>
+    ensures { StatementAnswer show_of shown_state tokens.now result }
+{
+    let (first, mut rest) = item_at(tokens)?;
+    let mut names = Vec::new(alloc);
+    names.push(first)?;
+    while let Some(more) = skip(rest, Sign::Comma) {
+        let (name, after) = item_at(more)?;
+        names.push(name)?;
+        rest = after;
+    }
+    let rest = expect(rest, Sign::End)?;
+    Ok((names, rest))
+}
+
+// The statement that stands first, behind so many.
+fn statement_at(alloc: Global, tokens: &[Lexeme], done: usize) -> Result<(Statement, &[Lexeme]), Stop>
+    ensures { NextAnswer tokens.now done result }
+{
+    let Some((first, rest)) = take_first(tokens) else {
+        return Err(syntax(tokens));
+    };
+    match first {
+        Lexeme::Name(name) => {
+            if done >= MOST {
+                return Err(limit(Which::Statements, tokens));
+            }
+            let (rule, rest) = rule_at(alloc, name, rest)?;
+            Ok((Statement::Rule(rule), rest))
+        }
+        Lexeme::Show => {
+            if done >= MOST {
+                return Err(limit(Which::Statements, tokens));
+            }
+            let (names, rest) = show_at(alloc, rest)?;
+            Ok((Statement::Show(names), rest))
+        }
+        _ => Err(syntax(tokens)),
+    }
+}
+
+/// The statements that all the tokens are.
+pub fn statements_of(alloc: Global, tokens: &[Lexeme]) -> Result<Vec<Statement>, Stop>
+    ensures { WholeAnswer tokens.now result }
+{
+    let mut statements = Vec::new(alloc);
+    let mut rest = tokens;
+    while !rest.is_empty() {
+        let (statement, after) = statement_at(alloc, rest, statements.len())?;
+        statements.push(statement)?;
+        rest = after;
+    }
+    Ok(statements)
+}
