@@ -1,0 +1,6 @@
+pub mod Stripped
+pub mod Fewer
+pub mod Says
+
+pub mod Formed
+pub mod RoundTrips

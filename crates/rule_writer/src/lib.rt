@@ -1,0 +1,2 @@
+//! Rules written as canonical text.
+#![tactic(auto)]
