@@ -4,3 +4,5 @@ pub mod Says
 
 pub mod Formed
 pub mod RoundTrips
+pub mod Parting
+pub mod ReadBack
