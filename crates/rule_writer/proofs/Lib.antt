@@ -6,3 +6,4 @@ pub mod Formed
 pub mod RoundTrips
 pub mod Parting
 pub mod ReadBack
+pub mod Appending
