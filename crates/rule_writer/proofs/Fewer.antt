@@ -26,6 +26,7 @@ use Rattle.rule_writer.specs.Forms.{number_form, and_argument, arguments_form, c
 use Rattle.rule_writer.specs.Forms.{ConditionForm, ConditionForm.OfUnit, ConditionForm.OfProduct, ConditionForm.OfSum, ConditionForm.OfComparison, ConditionForm.OfNegation, ConditionForm.OfAll, ConditionForm.OfCondition, as_condition, as_unit, as_product, as_sum, as_comparison, as_negation, as_all, scaled, added, compared, negated, both, either, calculated, condition_form}
 use Rattle.rule_writer.specs.Forms.{PatternForm, PatternForm.OfRound, PatternForm.OfPart, PatternForm.OfChain, PatternForm.OfTree, as_tree, as_round, as_part, as_chain, joined, filtered, exactly, at_most, without, atom_part, atom_form, pattern_form}
 use Rattle.rule_writer.specs.Spelled.{condition_level, condition_spelled, pattern_level, pattern_spelled}
+use Rattle.rule_writer.proofs.Levels.{unit_at, product_at, sum_at, negation_at, all_at, condition_at, round_at, part_at, chain_at, tree_at}
 use Rattle.rule_writer.proofs.Stripped.{normal_literal, normal_term, normal_arguments, normal_head, normal_heads, normal_heading, strip_condition, strip_all, strip_negation, strip_comparison, strip_sum, strip_product, strip_unit, strip_tree, strip_chain, strip_part, strip_round, strip_statement, strip_text}
 
 -- a token inside of a statement
@@ -173,6 +174,9 @@ bare_or_not : {many : Bool} (b : Bool) {xs ys ns : List Marked} → Fewer many x
 bare_or_not true f g = f
 bare_or_not false f g = g
 
+on : {many : Bool} {xs ys ns : List Marked} → xs ≡ ys → Fewer many ys ns → Fewer many xs ns
+on {many} {ns = ns} e f = subst (λ zs. Fewer many zs ns) (sym e) f
+
 -- where no tighter level is wanted, no bracket stands
 no_bracket : {many : Bool} (own level : ℕ) → level ≤ own → (xs ys : List Marked) {ns : List Marked} → Fewer many ys ns → Fewer many (cond (nat_lt own level) xs ys) ns
 no_bracket {many} own level le xs ys {ns} f = at (nat_lt own level) refl
@@ -189,106 +193,64 @@ tight_pattern : {many : Bool} (x : PatternForm) (level : ℕ) → level ≤ patt
     → Fewer many (pattern_spelled level d x ms) ns
 tight_pattern x level le d ms f = no_bracket (pattern_level x) level le _ _ f
 
-unit_on : {many : Bool} (d : ℕ) (x : ConditionForm) (ms : List Marked) {ns : List Marked} → Fewer many (condition_spelled 6 d x ms) ns → Fewer many (unit d (as_unit x) ms) ns
-unit_on d (OfUnit u) ms f = f
-unit_on d x ms f = f
-
-product_on : {many : Bool} (d : ℕ) (x : ConditionForm) (ms : List Marked) {ns : List Marked} → Fewer many (condition_spelled 5 d x ms) ns → Fewer many (product d (as_product x) ms) ns
-product_on d (OfProduct p) ms f = f
-product_on d (OfUnit u) ms f = f
-product_on d x ms f = f
-
-sum_on : {many : Bool} (d : ℕ) (x : ConditionForm) (ms : List Marked) {ns : List Marked} → Fewer many (condition_spelled 4 d x ms) ns → Fewer many (sum d (as_sum x) ms) ns
-sum_on d (OfSum s) ms f = f
-sum_on d x ms f = f
-
-negation_on : {many : Bool} (d : ℕ) (x : ConditionForm) (ms : List Marked) {ns : List Marked} → Fewer many (condition_spelled 2 d x ms) ns → Fewer many (negation d (as_negation x) ms) ns
-negation_on d (OfNegation n) ms f = f
-negation_on d x ms f = f
-
-all_on : {many : Bool} (d : ℕ) (x : ConditionForm) (ms : List Marked) {ns : List Marked} → Fewer many (condition_spelled 1 d x ms) ns → Fewer many (all d (as_all x) ms) ns
-all_on d (OfAll a) ms f = f
-all_on d x ms f = f
-
-condition_on : {many : Bool} (d : ℕ) (x : ConditionForm) (ms : List Marked) {ns : List Marked} → Fewer many (condition_spelled 0 d x ms) ns → Fewer many (condition d (as_condition x) ms) ns
-condition_on d (OfCondition c) ms f = f
-condition_on d x ms f = f
-
 mutual
   fewer_condition : {many : Bool} (c : Condition) (level : ℕ) → level ≤ 0 → (d e : ℕ) → d ≤ e → {ms ns : List Marked} → Fewer many ms ns
       → Fewer many (condition_spelled level d (strip_condition c) ms) (condition e c ns)
   fewer_condition (OneAll a) level le d e h f = fewer_all a level (omega arith) d e h f
   fewer_condition (MoreAll c a) level le d e h {ms} f =
-      tight (strip_condition (MoreAll c a)) level le d ms (condition_on d (strip_condition c) _ (fewer_condition c 0 (omega arith) d e h (Same Binary t.Either tt (all_on d (strip_all a) _ (fewer_all a 1 (omega arith) d e h f)))))
+      tight (strip_condition (MoreAll c a)) level le d ms (on (condition_at d (strip_condition c) _) (fewer_condition c 0 (omega arith) d e h (Same Binary t.Either tt (on (all_at d (strip_all a) _) (fewer_all a 1 (omega arith) d e h f)))))
 
   fewer_all : {many : Bool} (a : All) (level : ℕ) → level ≤ 1 → (d e : ℕ) → d ≤ e → {ms ns : List Marked} → Fewer many ms ns
       → Fewer many (condition_spelled level d (strip_all a) ms) (all e a ns)
   fewer_all (OneNegation n) level le d e h f = fewer_negation n level (omega arith) d e h f
   fewer_all (MoreNegation a n) level le d e h {ms} f =
-      tight (strip_all (MoreNegation a n)) level le d ms (all_on d (strip_all a) _ (fewer_all a 1 (omega arith) d e h (Same Binary t.Both tt (negation_on d (strip_negation n) _ (fewer_negation n 2 (omega arith) d e h f)))))
+      tight (strip_all (MoreNegation a n)) level le d ms (on (all_at d (strip_all a) _) (fewer_all a 1 (omega arith) d e h (Same Binary t.Both tt (on (negation_at d (strip_negation n) _) (fewer_negation n 2 (omega arith) d e h f)))))
 
   fewer_negation : {many : Bool} (n : Negation) (level : ℕ) → level ≤ 2 → (d e : ℕ) → d ≤ e → {ms ns : List Marked} → Fewer many ms ns
       → Fewer many (condition_spelled level d (strip_negation n) ms) (negation e n ns)
-  fewer_negation (Negated n) level le d e h {ms} f = tight (strip_negation (Negated n)) level le d ms (Same Single t.Bang tt (negation_on d (strip_negation n) _ (fewer_negation n 2 (omega arith) d e h f)))
+  fewer_negation (Negated n) level le d e h {ms} f = tight (strip_negation (Negated n)) level le d ms (Same Single t.Bang tt (on (negation_at d (strip_negation n) _) (fewer_negation n 2 (omega arith) d e h f)))
   fewer_negation (Compared c) level le d e h f = fewer_comparison c level (omega arith) d e h f
 
   fewer_comparison : {many : Bool} (c : Comparison) (level : ℕ) → level ≤ 3 → (d e : ℕ) → d ≤ e → {ms ns : List Marked} → Fewer many ms ns
       → Fewer many (condition_spelled level d (strip_comparison c) ms) (comparison e c ns)
   fewer_comparison (OneSum s) level le d e h f = fewer_sum s level (omega arith) d e h f
   fewer_comparison (TwoSums l cmp r) level le d e h {ms} f =
-      tight (strip_comparison (TwoSums l cmp r)) level le d ms (sum_on d (strip_sum l) _ (fewer_sum l 4 (omega arith) d e h (Same Binary (t.Compare cmp) tt (sum_on d (strip_sum r) _ (fewer_sum r 4 (omega arith) d e h f)))))
+      tight (strip_comparison (TwoSums l cmp r)) level le d ms (on (sum_at d (strip_sum l) _) (fewer_sum l 4 (omega arith) d e h (Same Binary (t.Compare cmp) tt (on (sum_at d (strip_sum r) _) (fewer_sum r 4 (omega arith) d e h f)))))
 
   fewer_sum : {many : Bool} (s : Sum) (level : ℕ) → level ≤ 4 → (d e : ℕ) → d ≤ e → {ms ns : List Marked} → Fewer many ms ns
       → Fewer many (condition_spelled level d (strip_sum s) ms) (sum e s ns)
   fewer_sum (OneProduct p) level le d e h f = fewer_product p level (omega arith) d e h f
   fewer_sum (MoreProduct s op p) level le d e h {ms} f =
-      tight (strip_sum (MoreProduct s op p)) level le d ms (sum_on d (strip_sum s) _ (fewer_sum s 4 (omega arith) d e h (Same Binary (adding op) tt (product_on d (strip_product p) _ (fewer_product p 5 (omega arith) d e h f)))))
+      tight (strip_sum (MoreProduct s op p)) level le d ms (on (sum_at d (strip_sum s) _) (fewer_sum s 4 (omega arith) d e h (Same Binary (adding op) tt (on (product_at d (strip_product p) _) (fewer_product p 5 (omega arith) d e h f)))))
 
   fewer_product : {many : Bool} (p : Product) (level : ℕ) → level ≤ 5 → (d e : ℕ) → d ≤ e → {ms ns : List Marked} → Fewer many ms ns
       → Fewer many (condition_spelled level d (strip_product p) ms) (product e p ns)
   fewer_product (OneUnit u) level le d e h f = fewer_unit u level (omega arith) d e h f
   fewer_product (MoreUnit p op u) level le d e h {ms} f =
-      tight (strip_product (MoreUnit p op u)) level le d ms (product_on d (strip_product p) _ (fewer_product p 5 (omega arith) d e h (Same Binary (scaling op) tt (unit_on d (strip_unit u) _ (fewer_unit u 6 (omega arith) d e h f)))))
+      tight (strip_product (MoreUnit p op u)) level le d ms (on (product_at d (strip_product p) _) (fewer_product p 5 (omega arith) d e h (Same Binary (scaling op) tt (on (unit_at d (strip_unit u) _) (fewer_unit u 6 (omega arith) d e h f)))))
 
   fewer_unit : {many : Bool} (u : Unit') (level : ℕ) → level ≤ 6 → (d e : ℕ) → d ≤ e → {ms ns : List Marked} → Fewer many ms ns
       → Fewer many (condition_spelled level d (strip_unit u) ms) (unit e u ns)
   fewer_unit (Value a) level le d e h {ms} f = tight (strip_unit (Value a)) level le d ms (fewer_term t.Var Single tt 1 a f)
   fewer_unit (Grouped c) level le d e h f =
       bare_or_not (nat_lt (condition_level (strip_condition c)) level)
-      (Nested (d + 1) (e + 1) t.Open (omega arith) (condition_on (d + 1) (strip_condition c) _ (fewer_condition c 0 (omega arith) (d + 1) (e + 1) (omega arith) (Same Quiet t.Close tt f))))
-      (NoOpen (e + 1) (condition_on d (strip_condition c) _ (fewer_condition c 0 (omega arith) d (e + 1) (omega arith) (NoClose f))))
+      (Nested (d + 1) (e + 1) t.Open (omega arith) (on (condition_at (d + 1) (strip_condition c) _) (fewer_condition c 0 (omega arith) (d + 1) (e + 1) (omega arith) (Same Quiet t.Close tt f))))
+      (NoOpen (e + 1) (on (condition_at d (strip_condition c) _) (fewer_condition c 0 (omega arith) d (e + 1) (omega arith) (NoClose f))))
 
 -- ---- patterns
-
-round_on : {many : Bool} (d : ℕ) (x : PatternForm) (ms : List Marked) {ns : List Marked} → Fewer many (pattern_spelled 3 d x ms) ns → Fewer many (round d (as_round x) ms) ns
-round_on d (OfRound r) ms f = f
-round_on d x ms f = f
-
-part_on : {many : Bool} (d : ℕ) (x : PatternForm) (ms : List Marked) {ns : List Marked} → Fewer many (pattern_spelled 2 d x ms) ns → Fewer many (part d (as_part x) ms) ns
-part_on d (OfPart p) ms f = f
-part_on d (OfRound r) ms f = f
-part_on d x ms f = f
-
-chain_on : {many : Bool} (d : ℕ) (x : PatternForm) (ms : List Marked) {ns : List Marked} → Fewer many (pattern_spelled 1 d x ms) ns → Fewer many (chain d (as_chain x) ms) ns
-chain_on d (OfChain c) ms f = f
-chain_on d x ms f = f
-
-tree_on : {many : Bool} (d : ℕ) (x : PatternForm) (ms : List Marked) {ns : List Marked} → Fewer many (pattern_spelled 0 d x ms) ns → Fewer many (tree d (as_tree x) ms) ns
-tree_on d (OfTree p) ms f = f
-tree_on d x ms f = f
 
 mutual
   fewer_tree : {many : Bool} (p : Tree) (level : ℕ) → level ≤ 0 → (d e : ℕ) → d ≤ e → {ms ns : List Marked} → Fewer many ms ns
       → Fewer many (pattern_spelled level d (strip_tree p) ms) (tree e p ns)
   fewer_tree (Plain c) level le d e h f = fewer_chain c level (omega arith) d e h f
   fewer_tree (Filtered p c) level le d e h {ms} f =
-      tight_pattern (strip_tree (Filtered p c)) level le d ms (tree_on d (strip_tree p) _ (fewer_tree p 0 (omega arith) d e h (Same Binary t.Where tt (condition_on d (strip_condition c) _ (fewer_condition c 0 (omega arith) d e h f)))))
+      tight_pattern (strip_tree (Filtered p c)) level le d ms (on (tree_at d (strip_tree p) _) (fewer_tree p 0 (omega arith) d e h (Same Binary t.Where tt (on (condition_at d (strip_condition c) _) (fewer_condition c 0 (omega arith) d e h f)))))
 
   fewer_chain : {many : Bool} (c : Chain) (level : ℕ) → level ≤ 1 → (d e : ℕ) → d ≤ e → {ms ns : List Marked} → Fewer many ms ns
       → Fewer many (pattern_spelled level d (strip_chain c) ms) (chain e c ns)
   fewer_chain (One p) level le d e h f = fewer_part p level (omega arith) d e h f
   fewer_chain (More c j p) level le d e h {ms} f =
-      tight_pattern (strip_chain (More c j p)) level le d ms (chain_on d (strip_chain c) _ (fewer_chain c 1 (omega arith) d e h (Same Binary (joint j) tt (part_on d (strip_part p) _ (fewer_part p 2 (omega arith) d e h f)))))
+      tight_pattern (strip_chain (More c j p)) level le d ms (on (chain_at d (strip_chain c) _) (fewer_chain c 1 (omega arith) d e h (Same Binary (joint j) tt (on (part_at d (strip_part p) _) (fewer_part p 2 (omega arith) d e h f)))))
 
   fewer_part : {many : Bool} (p : Part) (level : ℕ) → level ≤ 2 → (d e : ℕ) → d ≤ e → {ms ns : List Marked} → Fewer many ms ns
       → Fewer many (pattern_spelled level d (strip_part p) ms) (part e p ns)
@@ -296,24 +258,24 @@ mutual
   fewer_part (Atom name as') level le d e h {ms} f =
       tight_pattern (strip_part (Atom name as')) level le d ms (Same Single (t.Name name) tt (Same Quiet t.Open tt (fewer_arguments wanted 1 as' (Same Quiet t.Close tt f))))
   fewer_part (Without i b a) level le d e h {ms} f =
-      tight_pattern (strip_part (Without i b a)) level le d ms (Same Single t.Not tt (Nested (d + 1) (e + 1) t.Open (omega arith) (tree_on (d + 1) (strip_tree i) _ (fewer_tree i 0 (omega arith) (d + 1) (e + 1) (omega arith) (Same Quiet t.Close tt
-      (Nested (d + 1) (e + 1) t.Limits (omega arith) (tree_on (d + 1) (strip_tree b) _ (fewer_tree b 0 (omega arith) (d + 1) (e + 1) (omega arith) (Same Quiet t.Comma tt
-      (tree_on (d + 1) (strip_tree a) _ (fewer_tree a 0 (omega arith) (d + 1) (e + 1) (omega arith) (Same Quiet t.Square tt f))))))))))))
+      tight_pattern (strip_part (Without i b a)) level le d ms (Same Single t.Not tt (Nested (d + 1) (e + 1) t.Open (omega arith) (on (tree_at (d + 1) (strip_tree i) _) (fewer_tree i 0 (omega arith) (d + 1) (e + 1) (omega arith) (Same Quiet t.Close tt
+      (Nested (d + 1) (e + 1) t.Limits (omega arith) (on (tree_at (d + 1) (strip_tree b) _) (fewer_tree b 0 (omega arith) (d + 1) (e + 1) (omega arith) (Same Quiet t.Comma tt
+      (on (tree_at (d + 1) (strip_tree a) _) (fewer_tree a 0 (omega arith) (d + 1) (e + 1) (omega arith) (Same Quiet t.Square tt f))))))))))))
   fewer_part (Rounded r) level le d e h f = fewer_round r level (omega arith) d e h f
 
   fewer_round : {many : Bool} (r : Round) (level : ℕ) → level ≤ 3 → (d e : ℕ) → d ≤ e → {ms ns : List Marked} → Fewer many ms ns
       → Fewer many (pattern_spelled level d (strip_round r) ms) (round e r ns)
   fewer_round (Bracketed p) level le d e h f =
       bare_or_not (nat_lt (pattern_level (strip_tree p)) level)
-      (Nested (d + 1) (e + 1) t.Open (omega arith) (tree_on (d + 1) (strip_tree p) _ (fewer_tree p 0 (omega arith) (d + 1) (e + 1) (omega arith) (Same Quiet t.Close tt f))))
-      (NoOpen (e + 1) (tree_on d (strip_tree p) _ (fewer_tree p 0 (omega arith) d (e + 1) (omega arith) (NoClose f))))
+      (Nested (d + 1) (e + 1) t.Open (omega arith) (on (tree_at (d + 1) (strip_tree p) _) (fewer_tree p 0 (omega arith) (d + 1) (e + 1) (omega arith) (Same Quiet t.Close tt f))))
+      (NoOpen (e + 1) (on (tree_at d (strip_tree p) _) (fewer_tree p 0 (omega arith) d (e + 1) (omega arith) (NoClose f))))
   fewer_round (Exactly r q) level le d e h {ms} f =
-      tight_pattern (strip_round (Exactly r q)) level le d ms (round_on d (strip_round r) _ (fewer_round r 3 (omega arith) d e h (Same Single t.Length tt (Same (Lasts q) (t.Number q) tt f))))
+      tight_pattern (strip_round (Exactly r q)) level le d ms (on (round_at d (strip_round r) _) (fewer_round r 3 (omega arith) d e h (Same Single t.Length tt (Same (Lasts q) (t.Number q) tt f))))
   fewer_round (AtMost r q) level le d e h {ms} f =
-      tight_pattern (strip_round (AtMost r q)) level le d ms (round_on d (strip_round r) _ (fewer_round r 3 (omega arith) d e h (Same Binary t.Within tt (Same (Lasts q) (t.Number q) tt f))))
+      tight_pattern (strip_round (AtMost r q)) level le d ms (on (round_at d (strip_round r) _) (fewer_round r 3 (omega arith) d e h (Same Binary t.Within tt (Same (Lasts q) (t.Number q) tt f))))
 
 loose_tree : {many : Bool} (p : Tree) (d : ℕ) {ms ns : List Marked} → Fewer many ms ns → Fewer many (tree d (as_tree (strip_tree p)) ms) (tree d p ns)
-loose_tree p d f = tree_on d (strip_tree p) _ (fewer_tree p 0 (omega arith) d d (omega arith) f)
+loose_tree p d f = on (tree_at d (strip_tree p) _) (fewer_tree p 0 (omega arith) d d (omega arith) f)
 
 -- ---- statements
 

@@ -1,4 +1,5 @@
 pub mod Stripped
+pub mod Levels
 pub mod Fewer
 pub mod Says
 
@@ -7,3 +8,4 @@ pub mod RoundTrips
 pub mod Parting
 pub mod ReadBack
 pub mod Appending
+pub mod Arms

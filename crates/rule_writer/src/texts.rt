@@ -2,6 +2,7 @@
 ghost use Rattle.std.specs.Prelude.{◌≡◌, ◌++◌, OnOk, decimal};
 ghost use Rattle.std.specs.Fmt.{signed_decimal};
 ghost use Rattle.ev_term.specs.Text.{quoted};
+ghost use Rattle.rule_writer.specs.Writes.{when};
 
 use ev_term::{Name, Term, term_text};
 use itoa::Buffer;
@@ -11,6 +12,15 @@ pub(crate) fn write_str(out: &mut Vec<u8>, text: &str) -> Result<(), AllocError>
     ensures { OnOk result (out.new.items ≡ out.old.items ++ text.now) }
 {
     out.extend_from_slice(text.as_bytes())
+}
+
+pub(crate) fn write_if(out: &mut Vec<u8>, wanted: bool, text: &str) -> Result<(), AllocError>
+    ensures { OnOk result (out.new.items ≡ out.old.items ++ when wanted text.now) }
+{
+    if wanted {
+        write_str(out, text)?;
+    }
+    Ok(())
 }
 
 pub(crate) fn write_number(out: &mut Vec<u8>, n: u64) -> Result<(), AllocError>
