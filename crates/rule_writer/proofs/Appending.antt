@@ -1,5 +1,5 @@
 -- What follows one another in a text.
-use Rattle.std.proofs.Common.{◌≡◌, ℕ, zero, suc, ◌+◌, ◌-◌, ◌^◌, ◌<◌, ◌≤◌, ℤ, pos, negsuc, Bool, true, false, cond, ◌==◌, List, [], ◌∷◌, ◌++◌, length, map, take, get_or, Option, Some, None, ◌⊎◌, inl, inr, refl, sym, ap, ap₂, ◌∙◌, subst, append_assoc, append-nil, le_of_lt, arith, add-one, decimal, codes}
+use Rattle.std.proofs.Common.{◌≡◌, ℕ, suc, ◌+◌, ◌^◌, ◌<◌, ◌≤◌, ℤ, pos, negsuc, Bool, true, false, cond, ◌==◌, List, [], ◌∷◌, ◌++◌, length, map, take, get_or, Some, ◌⊎◌, inl, inr, refl, sym, ap, ◌∙◌, subst, append_assoc, le_of_lt, arith, add-one, decimal, codes}
 use Rattle.std.specs.List.{fold}
 use Rattle.std.specs.Fmt.{signed_decimal, digits}
 use Rattle.std.proofs.lemmas.Bool.{eqb-true}
@@ -7,12 +7,12 @@ use Rattle.std.proofs.lemmas.List.{map-append, take_more, length-take-le}
 use Rattle.std.proofs.lemmas.List.Sums.{fold_push}
 use Rattle.ev_term.specs.declared.terms.Pat.{Pat}
 use Rattle.rule_tokens.specs.declared.lexemes.Lexeme.TheVariants as t
-use Rattle.rule_grammar.specs.Trees.{Term, Term.Leaf, Term.Lone, Term.Compound, Arguments, Arguments.First, Arguments.Next, Literal, Literal.Digits, Literal.Minus, Literal.Least}
+use Rattle.rule_grammar.specs.Trees.{Term, Term.Lone, Arguments, Arguments.First, Arguments.Next, Literal, Literal.Digits, Literal.Minus, Literal.Least}
 use Rattle.rule_grammar.specs.Marks.{Marked, Role.Quiet, Role.Counts, Role.Deepens}
-use Rattle.rule_grammar.specs.Tokens.{quiet, literal, count_of, term, arguments}
+use Rattle.rule_grammar.specs.Tokens.{quiet, literal, count_of, arguments}
 use Rattle.rule_writer.specs.declared.terms.Place.{Place}
 use Rattle.rule_writer.specs.declared.terms.Place.TheVariants.{Argument, Operand, Ground}
-use Rattle.rule_writer.specs.Forms.{number_form, name_at, and_argument, arguments_form, compound_form}
+use Rattle.rule_writer.specs.Forms.{number_form, name_at, and_argument, compound_form}
 use Rattle.rule_writer.specs.Canonical.{bytes_of}
 use Rattle.rule_writer.specs.Writes.{Appends, LeafOf, spell_at, slot_form_at, any_form_at, form_at, term_tokens, compound_at, more_arguments, all_arguments}
 
@@ -40,7 +40,7 @@ lowest_decimal : decimal (2 ^ 63) ≡ codes "9223372036854775808"
 unfolding digits
 lowest_decimal = refl
 
-zero_decimal : decimal 0 ≡ codes "0"
+pub zero_decimal : decimal 0 ≡ codes "0"
 unfolding digits
 zero_decimal = refl
 
@@ -95,7 +95,7 @@ compound_written place names name [] d h p q r s = absurd (omega arith)
 compound_written place names name (first ∷ others) d {a} {b} {c} {e} {f} h p q r s =
     subst (λ o. Appends a f (term_tokens place d (compound_form name o))) (sym (behind_first (First (form_at place names first)) (map (form_at place names) others)))
     (then (pushes name (quiet (t.Name name)) p (λ rest. refl))
-      (then (pushes (codes "(") (λ rest. (Deepens (d + 1), t.Open) ∷ rest) q (λ rest. refl)) (then r (pushes (codes ")") (quiet t.Close) s (λ rest. refl)))))
+    (then (pushes (codes "(") (λ rest. (Deepens (d + 1), t.Open) ∷ rest) q (λ rest. refl)) (then r (pushes (codes ")") (quiet t.Close) s (λ rest. refl)))))
 
 pub first_argument : (place : Place) (names : List (List ℕ)) (args : List Pat) (x : Pat) (d : ℕ) {a b : List ℕ} → 0 < length args → x ≡ get_or args 0 x
     → Appends a b (term_tokens place d (form_at place names x)) → Appends a b (all_arguments place names (take 1 args) d)
@@ -108,7 +108,7 @@ one_more place names [] x d h p q r = absurd (omega arith)
 one_more place names (y ∷ ys) x d {a} {b} {c} {e} h p q r =
     let form : Pat → Term (LeafOf place) = form_at place names in
     let same : more_arguments (form y) (map form (ys ++ x ∷ [])) ≡ Next (more_arguments (form y) (map form ys)) (form x)
-          = ap (more_arguments (form y)) (map-append form ys (x ∷ [])) ∙ fold_push Next (First (form y)) (map form ys) (form x) in
+    = ap (more_arguments (form y)) (map-append form ys (x ∷ [])) ∙ fold_push Next (First (form y)) (map form ys) (form x) in
     subst (λ as'. Appends a e (arguments (spell_at place) d as')) (sym same)
     (then p (then (pushes (codes ",") (λ rest. (Counts (count_of (more_arguments (form y) (map form ys)) + 1), t.Comma) ∷ rest) q (λ rest. refl)) r))
 

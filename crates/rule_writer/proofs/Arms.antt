@@ -1,25 +1,22 @@
 -- What the writer appends for each kind of condition and of pattern.
-use Rattle.std.proofs.Common.{◌≡◌, ℕ, ◌+◌, ◌<◌, Bool, true, false, cond, nat_lt, List, [], ◌∷◌, ◌++◌, length, map, Option, Some, None, refl, sym, ap, ◌∙◌, subst, append_assoc, append-nil, decimal, codes}
+use Rattle.std.proofs.Common.{◌≡◌, ℕ, ◌+◌, Bool, true, false, cond, nat_lt, List, [], ◌∷◌, ◌++◌, map, Option, Some, None, refl, sym, ap, ◌∙◌, subst, append_assoc, append-nil, decimal, codes}
 use Rattle.ev_term.specs.declared.terms.Pat.{Pat}
-use Rattle.ev_term.specs.declared.operators.Op.{Op}
 use Rattle.rule_ast.specs.declared.conditions.Calc.{Calc}
 use Rattle.rule_ast.specs.declared.conditions.Calc.TheVariants.{Add, Sub, Mul, Div, Rem}
 use Rattle.rule_ast.specs.declared.conditions.Cmp.{Cmp}
 use Rattle.rule_tokens.specs.declared.lexemes.Lexeme.{Lexeme}
 use Rattle.rule_tokens.specs.declared.lexemes.Lexeme.TheVariants as t
 use Rattle.rule_tokens.specs.Writing.{spelling}
-use Rattle.rule_grammar.specs.Trees.{Literal, Literal.Digits, Literal.Minus, Literal.Least, Literal.Symbol, Literal.Quoted, Term, Term.Leaf, Term.Lone, Term.Compound, Arguments, Arguments.First, Arguments.Next}
-use Rattle.rule_grammar.specs.Trees.{Wanted, Wanted.Variable, Wanted.Anything, HeadTerm, HeadTerm.Leading, HeadTerm.Fixed, HeadTerms, HeadTerms.FirstTerm, HeadTerms.NextTerm, Heading, Heading.Plainly, Heading.Applied}
-use Rattle.rule_grammar.specs.Trees.{Adding, Adding.Added, Adding.Taken, Scaling, Scaling.Times, Scaling.Over, Scaling.Modulo, Joint, Joint.Joined, Joint.Otherwise}
-use Rattle.rule_grammar.specs.Trees.{Condition, Condition.OneAll, Condition.MoreAll, All, All.OneNegation, All.MoreNegation, Negation, Negation.Negated, Negation.Compared, Comparison, Comparison.OneSum, Comparison.TwoSums, Sum, Sum.OneProduct, Sum.MoreProduct, Product, Product.OneUnit, Product.MoreUnit, Unit', Unit'.Value, Unit'.Grouped}
-use Rattle.rule_grammar.specs.Trees.{Tree, Tree.Plain, Tree.Filtered, Chain, Chain.One, Chain.More, Part, Part.Bare, Part.Atom, Part.Without, Part.Rounded, Round, Round.Bracketed, Round.Exactly, Round.AtMost}
-use Rattle.rule_grammar.specs.Trees.{Items, Items.OneItem, Items.MoreItem, Statement, Statement.Clause, Statement.Shown, Statements, Statements.Empty, Statements.Then}
-use Rattle.rule_grammar.specs.Marks.{Role, Marked, Counted, nothing_counted, count, count_all, with_name, with_token, with_parts, over, by_role, passed}
-use Rattle.rule_grammar.specs.Marks.{Role.Quiet, Role.Starts, Role.Single, Role.Binary, Role.Nests, Role.Deepens, Role.Counts, Role.Lists, Role.Lasts, Role.HasArity}
-use Rattle.rule_grammar.specs.Tokens.{quiet, binary, a_part, literal, count_of, term, arguments, wanted, never, head_term, count_of_terms, head_terms, heading, adding, scaling, joint, condition, all, negation, comparison, sum, product, unit, tree, chain, part, round, items, statement, number_of, statements, text, bare}
-use Rattle.rule_writer.specs.Forms.{number_form, and_argument, arguments_form, compound_form, term_step, term_form, name_at, zero_term, argument_form, operand_form, ground_form, head_term_step, head_term_form, and_head_term, applied_form, heading_form, and_item, shown_form, statement_form, and_statement, text_form}
-use Rattle.rule_writer.specs.Forms.{ConditionForm, ConditionForm.OfUnit, ConditionForm.OfProduct, ConditionForm.OfSum, ConditionForm.OfComparison, ConditionForm.OfNegation, ConditionForm.OfAll, ConditionForm.OfCondition, as_condition, as_unit, as_product, as_sum, as_comparison, as_negation, as_all, scaled, added, compared, negated, both, either, calculated, condition_form}
-use Rattle.rule_writer.specs.Forms.{PatternForm, PatternForm.OfRound, PatternForm.OfPart, PatternForm.OfChain, PatternForm.OfTree, as_tree, as_round, as_part, as_chain, joined, filtered, exactly, at_most, without, atom_part, atom_form, pattern_form}
+use Rattle.rule_grammar.specs.Trees.{Literal.Digits, Literal.Minus, Literal.Least, Literal.Symbol, Literal.Quoted, Term, Term.Leaf, Term.Lone, Term.Compound, Arguments}
+use Rattle.rule_grammar.specs.Trees.{Wanted}
+use Rattle.rule_grammar.specs.Trees.{Joint}
+use Rattle.rule_grammar.specs.Trees.{Unit'.Value}
+use Rattle.rule_grammar.specs.Marks.{Marked}
+use Rattle.rule_grammar.specs.Marks.{Role.Quiet, Role.Single, Role.Nests, Role.Lasts}
+use Rattle.rule_grammar.specs.Tokens.{quiet, binary, a_part, term, wanted, joint, condition, all, negation, sum, product, unit, tree, chain, part, round}
+use Rattle.rule_writer.specs.Forms.{arguments_form, compound_form, argument_form, operand_form}
+use Rattle.rule_writer.specs.Forms.{ConditionForm, ConditionForm.OfUnit, as_condition, as_unit, as_product, as_sum, as_negation, as_all, compared, negated, both, either, calculated}
+use Rattle.rule_writer.specs.Forms.{PatternForm, PatternForm.OfPart, as_tree, as_round, as_part, as_chain, joined, filtered, exactly, at_most, without, atom_part}
 use Rattle.rule_writer.specs.Spelled.{condition_level, condition_spelled, pattern_level, pattern_spelled}
 use Rattle.rule_writer.specs.declared.terms.Place.TheVariants.{Argument, Operand}
 use Rattle.rule_writer.specs.Canonical.{bytes_of}

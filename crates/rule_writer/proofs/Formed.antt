@@ -1,5 +1,5 @@
 -- What a tree says becomes the tree again, without its redundant brackets.
-use Rattle.std.proofs.Common.{◌≡◌, ℕ, zero, suc, ◌+◌, ◌-◌, ◌^◌, ℤ, pos, ◌-ℤ◌, Bool, true, false, cond, ◌||◌, ◌&&◌, List, [], ◌∷◌, ◌++◌, map, get_or, Option, Some, None, refl, sym, ap, ap₂, ◌∙◌, subst, add-one, bytes_eq}
+use Rattle.std.proofs.Common.{◌≡◌, ℕ, ◌+◌, ◌^◌, ℤ, pos, ◌-ℤ◌, Bool, true, false, cond, ◌||◌, List, [], ◌∷◌, ◌++◌, map, Some, None, refl, sym, ap, ap₂, ◌∙◌, subst, add-one, bytes_eq}
 use Rattle.std.specs.List.{list_any, fold}
 use Rattle.std.proofs.lemmas.List.{map-append}
 use Rattle.std.proofs.lemmas.List.Sums.{fold_push}
@@ -9,10 +9,7 @@ use Rattle.ev_term.specs.declared.terms.Pat.{Pat, out-Pat}
 use Rattle.ev_term.specs.declared.terms.Pat.TheOpen.{Pat-F}
 use Rattle.ev_term.specs.declared.terms.Pat.TheVariants as pat
 use Rattle.ev_term.specs.declared.terms.Pat.TheFolds.{fold_out-Pat, map-Pat}
-use Rattle.ev_term.specs.declared.atoms.PatAtom.{PatAtom}
-use Rattle.ev_term.specs.declared.atoms.NameArity.{NameArity}
-use Rattle.rule_ast.specs.Trees as plain
-use Rattle.rule_ast.specs.Trees.{PlainCond, PlainPattern, PlainStatement}
+use Rattle.rule_ast.specs.Trees.{PlainPattern}
 use Rattle.rule_tokens.specs.declared.lexemes.Lexeme.{Lexeme}
 use Rattle.rule_tokens.specs.declared.lexemes.Lexeme.TheVariants as t
 use Rattle.rule_grammar.specs.Trees.{Literal, Literal.Digits, Literal.Minus, Literal.Least, Literal.Symbol, Literal.Quoted, Term, Term.Leaf, Term.Lone, Term.Compound, Arguments, Arguments.First, Arguments.Next}
@@ -21,15 +18,15 @@ use Rattle.rule_grammar.specs.Trees.{Adding, Adding.Added, Adding.Taken, Scaling
 use Rattle.rule_grammar.specs.Trees.{Condition, Condition.OneAll, Condition.MoreAll, All, All.OneNegation, All.MoreNegation, Negation, Negation.Negated, Negation.Compared, Comparison, Comparison.OneSum, Comparison.TwoSums, Sum, Sum.OneProduct, Sum.MoreProduct, Product, Product.OneUnit, Product.MoreUnit, Unit', Unit'.Value, Unit'.Grouped}
 use Rattle.rule_grammar.specs.Trees.{Tree, Tree.Plain, Tree.Filtered, Chain, Chain.One, Chain.More, Part, Part.Bare, Part.Atom, Part.Without, Part.Rounded, Round, Round.Bracketed, Round.Exactly, Round.AtMost}
 use Rattle.rule_grammar.specs.Trees.{Items, Items.OneItem, Items.MoreItem, Statement, Statement.Clause, Statement.Shown, Statements, Statements.Empty, Statements.Then}
-use Rattle.rule_grammar.specs.Marks.{Role, Marked, Counted, nothing_counted, count, count_all, with_name, with_token, with_parts, over, by_role, passed}
-use Rattle.rule_grammar.specs.Marks.{Role.Quiet, Role.Starts, Role.Single, Role.Binary, Role.Nests, Role.Deepens, Role.Counts, Role.Lists, Role.Lasts, Role.HasArity}
-use Rattle.rule_grammar.specs.Tokens.{quiet, binary, a_part, literal, count_of, term, arguments, wanted, never, head_term, count_of_terms, head_terms, heading, adding, scaling, joint, condition, all, negation, comparison, sum, product, unit, tree, chain, part, round, items, statement, number_of, statements, text, bare}
+use Rattle.rule_grammar.specs.Marks.{Role, Marked, Counted, nothing_counted, count, count_all, with_token}
+use Rattle.rule_grammar.specs.Marks.{Role.Quiet, Role.Starts, Role.Single, Role.Binary, Role.Nests, Role.Counts, Role.Lasts}
+use Rattle.rule_grammar.specs.Tokens.{quiet, binary, a_part, literal, count_of, term, arguments, wanted, never, head_term, count_of_terms, head_terms, adding, scaling, joint, condition, all, negation, comparison, sum, product, unit, tree, chain, part, round, text}
 use Rattle.rule_grammar.specs.Values.{slot_of, variable, wanted_value, never_value, literal_value, term_value, arguments_value, head_term_value, head_terms_value, heading_value, adding_value, scaling_value, condition_value, all_value, negation_value, comparison_value, sum_value, product_value, unit_value, joined_value, tree_value, chain_value, part_value, round_value, items_value, names_of, statement_value, text_value}
-use Rattle.rule_writer.specs.Forms.{number_form, and_argument, arguments_form, compound_form, term_step, term_form, name_at, zero_term, argument_form, operand_form, ground_form, head_term_step, head_term_form, and_head_term, applied_form, heading_form, and_item, shown_form, statement_form, and_statement, text_form}
-use Rattle.rule_writer.specs.Forms.{ConditionForm, ConditionForm.OfUnit, ConditionForm.OfProduct, ConditionForm.OfSum, ConditionForm.OfComparison, ConditionForm.OfNegation, ConditionForm.OfAll, ConditionForm.OfCondition, as_condition, as_unit, as_product, as_sum, as_comparison, as_negation, as_all, scaled, added, compared, negated, both, either, calculated, condition_form}
-use Rattle.rule_writer.specs.Forms.{PatternForm, PatternForm.OfRound, PatternForm.OfPart, PatternForm.OfChain, PatternForm.OfTree, as_tree, as_round, as_part, as_chain, joined, filtered, exactly, at_most, without, atom_part, atom_form, pattern_form}
+use Rattle.rule_writer.specs.Forms.{number_form, and_argument, arguments_form, compound_form, term_step, term_form, name_at, zero_term, argument_form, ground_form, head_term_step, head_term_form, and_head_term, applied_form, heading_form, and_item, shown_form, statement_form, and_statement, text_form}
+use Rattle.rule_writer.specs.Forms.{ConditionForm, ConditionForm.OfUnit, scaled, added, compared, negated, both, either, calculated, condition_form}
+use Rattle.rule_writer.specs.Forms.{PatternForm, PatternForm.OfPart, as_tree, joined, filtered, exactly, at_most, without, atom_part, pattern_form}
 use Rattle.rule_writer.proofs.Stripped.{normal_literal, normal_term, normal_arguments, normal_head, normal_heads, normal_heading, strip_condition, strip_all, strip_negation, strip_comparison, strip_sum, strip_product, strip_unit, strip_tree, strip_chain, strip_part, strip_round, strip_statement, strip_text}
-use Rattle.rule_writer.proofs.Fewer.{Inner, IsInner, Fewer, Fewer.Neither, inner, behind_heading, behind_first, fewer_behind}
+use Rattle.rule_writer.proofs.Fewer.{Inner, IsInner, Fewer.Neither, inner, behind_heading, behind_first, fewer_behind}
 
 -- ---- the form of a term at each of its constructors
 
@@ -146,9 +143,11 @@ mutual
   arguments_formed names spell leaf s o p (First a) d rest h = let x = term_formed names spell leaf s o p a Quiet d rest h in (ap (λ y. Some (First y)) x.0, x.1)
   arguments_formed names spell leaf s o p (Next as' a) d rest h =
       let x = arguments_formed names spell leaf s o p as' d ((Counts (count_of as' + 1), t.Comma) ∷ term spell Quiet d a rest) h in
-      let y = term_formed names spell leaf s o p a Quiet d rest x.1.1 in
-      (ap arguments_form (map-append (term_form s o) (arguments_value leaf as') (term_value leaf a ∷ []))
-        ∙ fold_push and_argument None (map (term_form s o) (arguments_value leaf as')) (term_form s o (term_value leaf a)) ∙ ap₂ and_argument x.0 y.0, y.1)
+      let y = term_formed names spell leaf s o p a Quiet d rest x.1.1 in (
+        ap arguments_form (map-append (term_form s o) (arguments_value leaf as') (term_value leaf a ∷ []))
+            ∙ fold_push and_argument None (map (term_form s o) (arguments_value leaf as')) (term_form s o (term_value leaf a)) ∙ ap₂ and_argument x.0 y.0,
+        y.1,
+      )
 
 slot_formed : {W : Type 0} (names : List (List ℕ)) (made : List ℕ → Term W) (o : Term W) (name : List ℕ) → list_any (bytes_eq name) names ≡ true
     → term_form (λ slot. made (name_at names slot)) o (variable names name) ≡ made name
@@ -190,9 +189,11 @@ heads_formed : (names : List (List ℕ)) (as' : HeadTerms) (rest : List Marked) 
 heads_formed names (FirstTerm a) rest h = let x = head_formed names a rest h in (ap (λ y. Some (FirstTerm y)) x.0, x.1)
 heads_formed names (NextTerm as' a) rest h =
     let x = heads_formed names as' ((Counts (count_of_terms as' + 1), t.Comma) ∷ head_term a rest) h in
-    let y = head_formed names a rest x.1.1 in
-    (ap (fold and_head_term None) (map-append (head_term_form names) (head_terms_value names as') (head_term_value names a ∷ []))
-      ∙ fold_push and_head_term None (map (head_term_form names) (head_terms_value names as')) (head_term_form names (head_term_value names a)) ∙ ap₂ and_head_term x.0 y.0, y.1)
+    let y = head_formed names a rest x.1.1 in (
+      ap (fold and_head_term None) (map-append (head_term_form names) (head_terms_value names as') (head_term_value names a ∷ []))
+          ∙ fold_push and_head_term None (map (head_term_form names) (head_terms_value names as')) (head_term_form names (head_term_value names a)) ∙ ap₂ and_head_term x.0 y.0,
+      y.1,
+    )
 
 heading_formed : (names : List (List ℕ)) (h : Heading) (rest : List Marked) → Named names (behind_heading h rest) → (heading_form names (heading_value names h) ≡ normal_heading h) × Named names rest
 heading_formed names (Plainly name) rest h = (refl, h)

@@ -1,8 +1,7 @@
 -- The tokens of a form at each level are those that are spelled where the level is wanted.
 use Rattle.std.proofs.Common.{◌≡◌, ℕ, List, refl}
-use Rattle.rule_writer.specs.Forms.{number_form, and_argument, arguments_form, compound_form, term_step, term_form, name_at, zero_term, argument_form, operand_form, ground_form, head_term_step, head_term_form, and_head_term, applied_form, heading_form, and_item, shown_form, statement_form, and_statement, text_form}
-use Rattle.rule_writer.specs.Forms.{ConditionForm, ConditionForm.OfUnit, ConditionForm.OfProduct, ConditionForm.OfSum, ConditionForm.OfComparison, ConditionForm.OfNegation, ConditionForm.OfAll, ConditionForm.OfCondition, as_condition, as_unit, as_product, as_sum, as_comparison, as_negation, as_all, scaled, added, compared, negated, both, either, calculated, condition_form}
-use Rattle.rule_writer.specs.Forms.{PatternForm, PatternForm.OfRound, PatternForm.OfPart, PatternForm.OfChain, PatternForm.OfTree, as_tree, as_round, as_part, as_chain, joined, filtered, exactly, at_most, without, atom_part, atom_form, pattern_form}
+use Rattle.rule_writer.specs.Forms.{ConditionForm, ConditionForm.OfUnit, ConditionForm.OfProduct, ConditionForm.OfSum, ConditionForm.OfNegation, ConditionForm.OfAll, ConditionForm.OfCondition, as_condition, as_unit, as_product, as_sum, as_negation, as_all}
+use Rattle.rule_writer.specs.Forms.{PatternForm, PatternForm.OfRound, PatternForm.OfPart, PatternForm.OfChain, PatternForm.OfTree, as_tree, as_round, as_part, as_chain}
 use Rattle.rule_grammar.specs.Marks.{Marked}
 use Rattle.rule_grammar.specs.Tokens.{condition, all, negation, sum, product, unit, tree, chain, part, round}
 use Rattle.rule_writer.specs.Spelled.{condition_spelled, pattern_spelled}

@@ -1,5 +1,5 @@
 -- The canonical tree of what a text says says the same, and keeps the limits that the text keeps.
-use Rattle.std.proofs.Common.{◌≡◌, ℕ, List, [], ◌∷◌, ◌++◌, refl, sym, ap, ap₂, ◌∙◌, subst}
+use Rattle.std.proofs.Common.{◌≡◌, [], ◌∷◌, ◌++◌, refl, sym, ap, ap₂, ◌∙◌, subst}
 use Rattle.rule_ast.specs.Trees as plain
 use Rattle.rule_grammar.specs.Trees.{Statement, Statement.Clause, Statement.Shown, Statements, Statements.Empty, Statements.Then}
 use Rattle.rule_grammar.specs.Marks.{nothing_counted}

@@ -1,5 +1,5 @@
 -- What is left of a tree without its redundant brackets says what the tree says.
-use Rattle.std.proofs.Common.{◌≡◌, ℕ, zero, suc, ◌+◌, ◌^◌, ℤ, pos, negsuc, ◌-ℤ◌, Bool, true, false, cond, ◌==◌, List, [], ◌∷◌, ◌++◌, refl, sym, ap, ap₂, ◌∙◌, arith, add-one, ◌-◌}
+use Rattle.std.proofs.Common.{◌≡◌, ℕ, ◌+◌, ◌^◌, ℤ, pos, negsuc, ◌-ℤ◌, Bool, true, false, cond, ◌==◌, List, [], ◌∷◌, ◌++◌, refl, ap, ap₂, ◌∙◌, arith, ◌-◌}
 use Rattle.std.proofs.lemmas.Bool.{eqb-true}
 use Rattle.std.proofs.lemmas.Int.{ints}
 use Rattle.ev_term.specs.declared.terms.Pat.{Pat}
@@ -7,16 +7,14 @@ use Rattle.ev_term.specs.declared.terms.Pat.TheVariants as pat
 use Rattle.rule_ast.specs.Trees as plain
 use Rattle.rule_ast.specs.Trees.{PlainCond, PlainPattern}
 use Rattle.rule_grammar.specs.Trees.{Literal, Literal.Digits, Literal.Minus, Literal.Least, Literal.Symbol, Literal.Quoted, Term, Term.Leaf, Term.Lone, Term.Compound, Arguments, Arguments.First, Arguments.Next}
-use Rattle.rule_grammar.specs.Trees.{Wanted, Wanted.Variable, Wanted.Anything, HeadTerm, HeadTerm.Leading, HeadTerm.Fixed, HeadTerms, HeadTerms.FirstTerm, HeadTerms.NextTerm, Heading, Heading.Plainly, Heading.Applied}
-use Rattle.rule_grammar.specs.Trees.{Adding, Adding.Added, Adding.Taken, Scaling, Scaling.Times, Scaling.Over, Scaling.Modulo, Joint, Joint.Joined, Joint.Otherwise}
+use Rattle.rule_grammar.specs.Trees.{HeadTerm, HeadTerm.Leading, HeadTerm.Fixed, HeadTerms, HeadTerms.FirstTerm, HeadTerms.NextTerm, Heading, Heading.Plainly, Heading.Applied}
 use Rattle.rule_grammar.specs.Trees.{Condition, Condition.OneAll, Condition.MoreAll, All, All.OneNegation, All.MoreNegation, Negation, Negation.Negated, Negation.Compared, Comparison, Comparison.OneSum, Comparison.TwoSums, Sum, Sum.OneProduct, Sum.MoreProduct, Product, Product.OneUnit, Product.MoreUnit, Unit', Unit'.Value, Unit'.Grouped}
 use Rattle.rule_grammar.specs.Trees.{Tree, Tree.Plain, Tree.Filtered, Chain, Chain.One, Chain.More, Part, Part.Bare, Part.Atom, Part.Without, Part.Rounded, Round, Round.Bracketed, Round.Exactly, Round.AtMost}
-use Rattle.rule_grammar.specs.Trees.{Items, Items.OneItem, Items.MoreItem, Statement, Statement.Clause, Statement.Shown, Statements, Statements.Empty, Statements.Then}
-use Rattle.rule_grammar.specs.Values.{slot_of, variable, wanted_value, never_value, literal_value, term_value, arguments_value, head_term_value, head_terms_value, heading_value, adding_value, scaling_value, condition_value, all_value, negation_value, comparison_value, sum_value, product_value, unit_value, joined_value, tree_value, chain_value, part_value, round_value, items_value, names_of, statement_value, text_value}
-use Rattle.rule_writer.specs.Forms.{number_form, and_argument, arguments_form, compound_form, term_step, term_form, name_at, zero_term, argument_form, operand_form, ground_form, head_term_step, head_term_form, and_head_term, applied_form, heading_form, and_item, shown_form, statement_form, and_statement, text_form}
-use Rattle.rule_writer.specs.Forms.{ConditionForm, ConditionForm.OfUnit, ConditionForm.OfProduct, ConditionForm.OfSum, ConditionForm.OfComparison, ConditionForm.OfNegation, ConditionForm.OfAll, ConditionForm.OfCondition, as_condition, as_unit, as_product, as_sum, as_comparison, as_negation, as_all, scaled, added, compared, negated, both, either, calculated, condition_form}
-use Rattle.rule_writer.specs.Forms.{PatternForm, PatternForm.OfRound, PatternForm.OfPart, PatternForm.OfChain, PatternForm.OfTree, as_tree, as_round, as_part, as_chain, joined, filtered, exactly, at_most, without, atom_part, atom_form, pattern_form}
-use Rattle.rule_writer.proofs.Stripped.{normal_literal, normal_term, normal_arguments, normal_head, normal_heads, normal_heading, strip_condition, strip_all, strip_negation, strip_comparison, strip_sum, strip_product, strip_unit, strip_tree, strip_chain, strip_part, strip_round, strip_statement, strip_text}
+use Rattle.rule_grammar.specs.Values.{variable, wanted_value, never_value, literal_value, term_value, arguments_value, head_term_value, head_terms_value, heading_value, adding_value, scaling_value, condition_value, all_value, negation_value, comparison_value, sum_value, product_value, unit_value, joined_value, tree_value, chain_value, part_value, round_value}
+use Rattle.rule_writer.specs.Forms.{number_form}
+use Rattle.rule_writer.specs.Forms.{ConditionForm, ConditionForm.OfUnit, ConditionForm.OfProduct, ConditionForm.OfSum, ConditionForm.OfComparison, ConditionForm.OfNegation, ConditionForm.OfAll, as_condition, as_unit, as_product, as_sum, as_comparison, as_negation, as_all}
+use Rattle.rule_writer.specs.Forms.{PatternForm, PatternForm.OfRound, PatternForm.OfPart, PatternForm.OfChain, as_tree, as_round, as_part, as_chain}
+use Rattle.rule_writer.proofs.Stripped.{normal_literal, normal_term, normal_arguments, normal_head, normal_heads, normal_heading, strip_condition, strip_all, strip_negation, strip_comparison, strip_sum, strip_product, strip_unit, strip_tree, strip_chain, strip_part, strip_round}
 
 pub below_zero : (n : ℕ) → pos 0 -ℤ pos (n + 1) ≡ negsuc n
 below_zero n = omega (arith, ints)

@@ -7,7 +7,6 @@ use Rattle.ev_term.specs.declared.terms.Pat.TheOpen.Pat-F.{Var, Any, Num, Sym, T
 use Rattle.ev_term.specs.declared.terms.Pat.TheFolds.{fold-Pat}
 use Rattle.ev_term.specs.declared.atoms.PatAtom.{PatAtom}
 use Rattle.ev_term.specs.declared.atoms.NameArity.{NameArity}
-use Rattle.ev_term.specs.declared.operators.Op.{Op}
 use Rattle.rule_ast.specs.declared.conditions.Calc.{Calc}
 use Rattle.rule_ast.specs.declared.conditions.Calc.TheVariants.{Add, Sub, Mul, Div, Rem}
 use Rattle.rule_ast.specs.declared.conditions.Cmp.{Cmp}

@@ -1,7 +1,6 @@
 -- What canonical text is read as.
 use Rattle.std.specs.Prelude.{◌≡◌, ℕ, true, List, length}
 use Rattle.rule_tokens.specs.Lexing.{Lexing}
-use Rattle.rule_grammar.specs.Trees.{Statements}
 use Rattle.rule_grammar.specs.Tokens.{text, bare}
 use Rattle.rule_grammar.specs.Values.{text_value}
 use Rattle.rule_grammar.specs.Texts.{Reads}

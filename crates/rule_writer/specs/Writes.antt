@@ -8,7 +8,7 @@ use Rattle.rule_ast.specs.declared.conditions.Calc.{Calc}
 use Rattle.rule_ast.specs.declared.conditions.Calc.TheVariants.{Add, Sub, Mul, Div, Rem}
 use Rattle.rule_tokens.specs.declared.lexemes.Lexeme.TheVariants.{Var, Name, Number, Slash, Plus, Minus, Star, Percent}
 use Rattle.rule_tokens.specs.Writing.{spelling}
-use Rattle.rule_grammar.specs.Trees.{Term, Term.Leaf, Arguments, Arguments.First, Arguments.Next, Wanted, Wanted.Variable, Wanted.Anything, HeadTerm, HeadTerms, HeadTerms.FirstTerm, HeadTerms.NextTerm, Items, Items.OneItem, Items.MoreItem}
+use Rattle.rule_grammar.specs.Trees.{Term, Term.Leaf, Arguments, Arguments.First, Arguments.Next, Wanted, Wanted.Variable, Wanted.Anything, HeadTerm, HeadTerms, HeadTerms.FirstTerm, HeadTerms.NextTerm}
 use Rattle.rule_grammar.specs.Marks.{Marked, Role.Quiet, Role.HasArity}
 use Rattle.rule_grammar.specs.Tokens.{quiet, term, arguments, wanted, never, head_terms, items}
 use Rattle.rule_writer.specs.declared.terms.Place.{Place}

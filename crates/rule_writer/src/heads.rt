@@ -34,7 +34,11 @@ fn write_head_terms(out: &mut Vec<u8>, names: &[Name], args: &[Pat]) -> Result<(
     Ok(())
 }
 
-pub(crate) fn write_head(out: &mut Vec<u8>, names: &[Name], head: &PatAtom) -> Result<(), AllocError>
+pub(crate) fn write_head(
+    out: &mut Vec<u8>,
+    names: &[Name],
+    head: &PatAtom,
+) -> Result<(), AllocError>
     ensures { OnOk result ((n : ℕ) → Appends out.old.items out.new.items (heading n (heading_form names.now head.now))) }
 {
     let args = head.args.as_slice();

@@ -89,7 +89,13 @@ fn write_bare(out: &mut Vec<u8>, names: &[Name], pattern: &Pattern) -> Result<()
 {
     match pattern {
         Pattern::Atom(atom) => {
-            write_compound(out, names, Place::Argument, &atom.name, atom.args.as_slice())?
+            write_compound(
+                out,
+                names,
+                Place::Argument,
+                &atom.name,
+                atom.args.as_slice(),
+            )?
         }
         Pattern::Both(op, left, right) => {
             write_pattern(out, names, left, PatternLevel::Chain)?;

@@ -70,7 +70,7 @@ pub fn rules_text(alloc: Global, rules: &RuleSet) -> Result<Vec<u8>, AllocError>
     ensures { IfOk result (λ v. v.items ≡ canonical (plain_rules rules.now)) }
 {
     let mut out = Vec::new(alloc);
-    for statement in rules.statements.as_slice() {
+    for statement in &rules.statements {
         write_statement(&mut out, statement)?;
     }
     Ok(out)

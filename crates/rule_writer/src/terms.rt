@@ -16,7 +16,11 @@ pub enum Place {
     Ground,
 }
 
-pub(crate) fn write_slot_name(out: &mut Vec<u8>, names: &[Name], slot: Slot) -> Result<(), AllocError>
+pub(crate) fn write_slot_name(
+    out: &mut Vec<u8>,
+    names: &[Name],
+    slot: Slot,
+) -> Result<(), AllocError>
     ensures { OnOk result (out.new.items ≡ out.old.items ++ name_at names.now slot) }
 {
     match names.get(slot.number() as usize) {
@@ -46,7 +50,12 @@ fn write_any(out: &mut Vec<u8>, place: Place) -> Result<(), AllocError>
 }
 
 #[cycle(term)]
-pub(crate) fn write_term(out: &mut Vec<u8>, names: &[Name], place: Place, pat: &Pat) -> Result<(), AllocError>
+pub(crate) fn write_term(
+    out: &mut Vec<u8>,
+    names: &[Name],
+    place: Place,
+    pat: &Pat,
+) -> Result<(), AllocError>
     ensures { OnOk result ((d : ℕ) → Appends out.old.items out.new.items (term_tokens place d (form_at place names.now pat.now))) }
 {
     match pat {
@@ -83,7 +92,12 @@ pub(crate) fn write_compound(
 
 // Arguments, with a comma between each two.
 #[cycle(term)]
-fn write_arguments(out: &mut Vec<u8>, names: &[Name], place: Place, args: &[Pat]) -> Result<(), AllocError>
+fn write_arguments(
+    out: &mut Vec<u8>,
+    names: &[Name],
+    place: Place,
+    args: &[Pat],
+) -> Result<(), AllocError>
     ensures { OnOk result ((d : ℕ) → Appends out.old.items out.new.items (all_arguments place names.now args.now d)) }
 {
     if args.is_empty() {

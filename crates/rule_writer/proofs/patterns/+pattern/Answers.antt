@@ -1,4 +1,4 @@
-use Rattle.std.proofs.Common.{◌≡◌, ◌+◌, ◌++◌, nat_lt, ap, ap₂, ◌∙◌}
+use Rattle.std.proofs.Common.{◌+◌, ◌++◌, nat_lt, ap, ap₂, ◌∙◌}
 use Rattle.rule_ast.specs.Plain.{plain_cond, plain_pattern}
 use Rattle.rule_grammar.specs.Trees.{Joint.Joined, Joint.Otherwise}
 use Rattle.rule_writer.specs.Forms.{condition_form, pattern_form}
@@ -14,13 +14,13 @@ pub write_bare-returns-in_ok-write_pattern-in-Both-2 : goal.write_bare-returns-i
 write_bare-returns-in_ok-write_pattern-in-Both-2 t c d =
     rw c.in-Both.is
     (joined_written (Joined c.in-Both.op) (pattern_form c.args.names.now (plain_pattern c.in-Both.left.value)) (pattern_form c.args.names.now (plain_pattern c.in-Both.right.value)) d (rw c.deref.ensures at (c.in_ok-write_pattern-in-Both.ensures d))
-      (c.in_ok-write_str-in-Both.ensures ∙ ap (λ x. c.write_pattern.new.out.items ++ x) c.op_word.ensures) (rw c.deref-in-Both.ensures at (c.in_ok-write_pattern-in-Both-2.ensures d)))
+    (c.in_ok-write_str-in-Both.ensures ∙ ap (λ x. c.write_pattern.new.out.items ++ x) c.op_word.ensures) (rw c.deref-in-Both.ensures at (c.in_ok-write_pattern-in-Both-2.ensures d)))
 
 pub write_bare-returns-in_ok-write_pattern-in-Either-2 : goal.write_bare-returns-in_ok-write_pattern-in-Either-2
 write_bare-returns-in_ok-write_pattern-in-Either-2 t c d =
     rw c.in-Either.is
     (joined_written Otherwise (pattern_form c.args.names.now (plain_pattern c.in-Either.left.value)) (pattern_form c.args.names.now (plain_pattern c.in-Either.right.value)) d (rw c.deref-in-Either.ensures at (c.in_ok-write_pattern-in-Either.ensures d)) c.in_ok-write_str-in-Either.ensures
-      (rw c.deref-in-Either-2.ensures at (c.in_ok-write_pattern-in-Either-2.ensures d)))
+    (rw c.deref-in-Either-2.ensures at (c.in_ok-write_pattern-in-Either-2.ensures d)))
 
 pub write_bare-returns-in_ok-write_condition-in-Where : goal.write_bare-returns-in_ok-write_condition-in-Where
 write_bare-returns-in_ok-write_condition-in-Where t c d =
@@ -39,8 +39,8 @@ pub write_bare-returns-in_ok-write_str-in-Not-4 : goal.write_bare-returns-in_ok-
 write_bare-returns-in_ok-write_str-in-Not-4 t c d =
     rw c.in-Not.is
     (not_written (pattern_form c.args.names.now (plain_pattern c.in-Not.inner.value)) (pattern_form c.args.names.now (plain_pattern c.in-Not.before.value)) (pattern_form c.args.names.now (plain_pattern c.in-Not.after.value)) d c.in_ok-write_str-in-Not.ensures (rw c.deref-in-Not.ensures at (c.in_ok-write_pattern-in-Not.ensures (d + 1))) c.in_ok-write_str-in-Not-2.ensures
-      (rw c.deref-in-Not-2.ensures at (c.in_ok-write_pattern-in-Not-2.ensures (d + 1))) c.in_ok-write_str-in-Not-3.ensures
-      (rw c.deref-in-Not-3.ensures at (c.in_ok-write_pattern-in-Not-3.ensures (d + 1))) c.in_ok-write_str-in-Not-4.ensures)
+    (rw c.deref-in-Not-2.ensures at (c.in_ok-write_pattern-in-Not-2.ensures (d + 1))) c.in_ok-write_str-in-Not-3.ensures
+    (rw c.deref-in-Not-3.ensures at (c.in_ok-write_pattern-in-Not-3.ensures (d + 1))) c.in_ok-write_str-in-Not-4.ensures)
 
 pub write_pattern-returns : goal.write_pattern-returns
 write_pattern-returns t c d =

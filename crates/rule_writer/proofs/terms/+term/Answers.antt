@@ -1,9 +1,9 @@
-use Rattle.std.proofs.Common.{rules, ◌≡◌, ℕ, ◌+◌, List, ◌++◌, ◌≤◌, ◌<◌, refl, ap, ◌∙◌, subst, sym, take, take_all, length, arith}
+use Rattle.std.proofs.Common.{rules, ◌+◌, ◌++◌, refl, ap, ◌∙◌, subst, take_all}
 use Rattle.std.specs.Fmt.{signed_decimal}
-use Rattle.ev_term.specs.Text.{quoted, term_text-Text}
+use Rattle.ev_term.specs.Text.{quoted}
 use Rattle.rule_grammar.specs.Trees.{Literal.Symbol, Literal.Quoted}
 use Rattle.rule_writer.specs.Forms.{number_form}
-use Rattle.rule_writer.specs.Writes.{Appends, slot_form_at, any_form_at, form_at, term_tokens, all_arguments}
+use Rattle.rule_writer.specs.Writes.{Appends, all_arguments}
 use Rattle.rule_writer.proofs.Formed.{term_form-Var, term_form-Any, term_form-Num, term_form-Sym, term_form-Text, term_form-Comp}
 use Rattle.rule_writer.proofs.Appending.{literal_written, number_bytes, first_argument, next_argument, compound_written}
 use Rattle.rule_writer.proofs.terms.+term.Goals as goal
