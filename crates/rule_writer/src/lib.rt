@@ -11,3 +11,6 @@ mod texts;
 
 pub use round_trip::rules_are_read_back;
 pub use statements::rules_text;
+
+#[cfg(test)]
+mod tests;
