@@ -32,13 +32,13 @@ abbrev Stops : List Marked → Type 0
 Stops ms = begins is_word (bytes_of ms) ≡ false
 
 -- a token of the role has no blank for its role
-record Plainly' (r : Role) : Type 0 where
+record NoBlank (r : Role) : Type 0 where
   piece : (x : Lexeme) → piece_of (r, x) ≡ by_token x
 
-in_quiet : Plainly' Quiet
+in_quiet : NoBlank Quiet
 in_quiet = record { piece = λ x. refl }
 
-in_single : Plainly' Single
+in_single : NoBlank Single
 in_single = record { piece = λ x. refl }
 
 lone : (r : Role) (x : Lexeme) (ms : List Marked) → piece_of (r, x) ≡ alone x → (IsProper ((r, x) ∷ ms) → may_precede x (bytes_of ms) ≡ true) → Fine ms → Fine ((r, x) ∷ ms)
@@ -50,22 +50,22 @@ no_digit : (bs : List ℕ) → begins is_word bs ≡ false → begins is_ascii_d
 no_digit [] h = refl
 no_digit (b ∷ bs) h = grind (arith, nat_tests, h)
 
-a_name : (r : Role) → Plainly' r → (word : List ℕ) (ms : List Marked) → Stops ms → Fine ms → Fine ((r, t.Name word) ∷ ms)
+a_name : (r : Role) → NoBlank r → (word : List ℕ) (ms : List Marked) → Stops ms → Fine ms → Fine ((r, t.Name word) ∷ ms)
 a_name r a word ms s f = lone r (t.Name word) ms (a.piece (t.Name word)) (λ h. ap not s) f
 
-a_variable : (r : Role) → Plainly' r → (word : List ℕ) (ms : List Marked) → Stops ms → Fine ms → Fine ((r, t.Var word) ∷ ms)
+a_variable : (r : Role) → NoBlank r → (word : List ℕ) (ms : List Marked) → Stops ms → Fine ms → Fine ((r, t.Var word) ∷ ms)
 a_variable r a word ms s f = lone r (t.Var word) ms (a.piece (t.Var word)) (λ h. ap not s) f
 
-a_text : (r : Role) → Plainly' r → (bytes : List ℕ) (ms : List Marked) → Fine ms → Fine ((r, t.Text bytes) ∷ ms)
+a_text : (r : Role) → NoBlank r → (bytes : List ℕ) (ms : List Marked) → Fine ms → Fine ((r, t.Text bytes) ∷ ms)
 a_text r a bytes ms f = lone r (t.Text bytes) ms (a.piece (t.Text bytes)) (λ h. refl) f
 
-a_number : (r : Role) → Plainly' r → (n : ℕ) (ms : List Marked) → Stops ms → Fine ms → Fine ((r, t.Number n) ∷ ms)
+a_number : (r : Role) → NoBlank r → (n : ℕ) (ms : List Marked) → Stops ms → Fine ms → Fine ((r, t.Number n) ∷ ms)
 a_number r a n ms s f = lone r (t.Number n) ms (a.piece (t.Number n)) (λ h. ap not (no_digit (bytes_of ms) s)) f
 
-a_minus : (r : Role) → Plainly' r → (ms : List Marked) → Fine ms → Fine ((r, t.Minus) ∷ ms)
+a_minus : (r : Role) → NoBlank r → (ms : List Marked) → Fine ms → Fine ((r, t.Minus) ∷ ms)
 a_minus r a ms f = lone r t.Minus ms (a.piece t.Minus) (λ h. refl) f
 
-fine_literal : (r : Role) → Plainly' r → (l : Literal) (ms : List Marked) → Stops ms → Fine ms → Fine (literal r l ms)
+fine_literal : (r : Role) → NoBlank r → (l : Literal) (ms : List Marked) → Stops ms → Fine ms → Fine (literal r l ms)
 fine_literal r a (Digits n) ms s f = a_number r a n ms s f
 fine_literal r a (Minus n) ms s f = a_minus r a (quiet (t.Number n) ms) (a_number Quiet in_quiet n ms s f)
 fine_literal r a Least ms s f = a_minus r a (quiet t.Huge ms) (lone Quiet t.Huge ms refl (λ h. ap not (no_digit (bytes_of ms) s)) f)
@@ -74,10 +74,10 @@ fine_literal r a (Quoted bytes) ms s f = a_text r a bytes ms f
 
 -- what stands for a term
 record Leaves {W : Type 0} (spell : W → Lexeme) : Type 0 where
-  leaf : (w : W) (r : Role) → Plainly' r → (ms : List Marked) → Stops ms → Fine ms → Fine ((r, spell w) ∷ ms)
+  leaf : (w : W) (r : Role) → NoBlank r → (ms : List Marked) → Stops ms → Fine ms → Fine ((r, spell w) ∷ ms)
 
 mutual
-  fine_term : {W : Type 0} (spell : W → Lexeme) → Leaves spell → (r : Role) → Plainly' r → (d : ℕ) (x : Term W) (ms : List Marked) → Stops ms → Fine ms → Fine (term spell r d x ms)
+  fine_term : {W : Type 0} (spell : W → Lexeme) → Leaves spell → (r : Role) → NoBlank r → (d : ℕ) (x : Term W) (ms : List Marked) → Stops ms → Fine ms → Fine (term spell r d x ms)
   fine_term spell w r a d (Leaf x) ms s f = w.leaf x r a ms s f
   fine_term spell w r a d (Lone l) ms s f = fine_literal r a l ms s f
   fine_term spell w r a d (Compound name as') ms s f =
@@ -91,7 +91,7 @@ mutual
 wanted_leaves : Leaves wanted
 wanted_leaves = record { leaf = at }
   where
-    at : (w : Wanted) (r : Role) → Plainly' r → (ms : List Marked) → Stops ms → Fine ms → Fine ((r, wanted w) ∷ ms)
+    at : (w : Wanted) (r : Role) → NoBlank r → (ms : List Marked) → Stops ms → Fine ms → Fine ((r, wanted w) ∷ ms)
     at (Variable name) r a ms s f = a_variable r a name ms s f
     at Anything r a ms s f = lone r t.Wild ms (a.piece t.Wild) (λ h. ap not s) f
 
@@ -111,7 +111,7 @@ fine_heads : (as' : HeadTerms) (ms : List Marked) → Stops ms → Fine ms → F
 fine_heads (FirstTerm a) ms s f = fine_head a ms s f
 fine_heads (NextTerm as' a) ms s f = fine_heads as' ((Counts (count_of_terms as' + 1), t.Comma) ∷ head_term a ms) refl (fine_head a ms s f)
 
-in_starts : (n : ℕ) → Plainly' (Starts n)
+in_starts : (n : ℕ) → NoBlank (Starts n)
 in_starts n = record { piece = λ x. refl }
 
 fine_heading : (n : ℕ) (h : Heading) (ms : List Marked) → Stops ms → Fine ms → Fine (heading n h ms)

@@ -1,5 +1,6 @@
--- The canonical text of what a rule file says. A statement stands on a line. One blank stands on each side of `<-`, of each operator
--- between two operands, of `WHERE` and of `WITHIN`, behind `show`, and behind each comma of its names; no other blank stands anywhere.
+-- The canonical text of what a rule file says. A statement stands on a line, which ends behind its stop. One blank stands on each side
+-- of `<-`, of each operator between two operands, of `WHERE` and of `WITHIN`, behind `show`, and behind each comma between shown names;
+-- no other blank stands anywhere.
 use Rattle.std.specs.Prelude.{ℕ, List, [], ◌∷◌, map}
 use Rattle.rule_ast.specs.Trees.{PlainStatement}
 use Rattle.rule_tokens.specs.declared.lexemes.Lexeme.{Lexeme}
