@@ -73,7 +73,7 @@ list_step_keeps spell reads base out h (HaveName n b name) t.Open rest = refl
 list_step_keeps spell reads base out h (HaveName n b name) t.Comma rest = ap (nest spell base out n) (put_term_reads spell (level base n) b (Lone (Symbol name)) ((Counts (count_of (put_term b (Lone (Symbol name))) + 1), t.Comma) ∷ rest))
 list_step_keeps spell reads base out h (HaveName n b name) x rest =
     list_along spell base out (λ ms. ap (nest spell base out n) (put_term_reads spell (level base n) b (Lone (Symbol name)) ms)) x rest (behind_terms n (put_term b (Lone (Symbol name))) x)
-      (behind_terms_keep spell base out n (put_term b (Lone (Symbol name))) x rest)
+    (behind_terms_keep spell base out n (put_term b (Lone (Symbol name))) x rest)
   where
     list_along : {W O : Type 0} (spell : W → Lexeme) (base : ℕ) (out : O → List Marked → List Marked) {was was' : List Marked → List Marked} → ((ms : List Marked) → was ms ≡ was' ms)
         → (x : Lexeme) (rest : List Marked) (s : Turn W O) → ListKeeps spell base out was' x rest s → ListKeeps spell base out was x rest s

@@ -33,9 +33,10 @@ keeps_at s x y e more = MatchOption-at_some (Unit {0}) (λ z. so_far s ((z.0, x)
 leads_on : (g : Counted) (s : State) (x : Lexeme) (y : Role × State) (front : List Marked) (to : State)
     → step s x ≡ Some y → passed (count g (y.0, x)) y.0 ≡ None → Leads (count g (y.0, x)) y.1 front to → Leads g s ((y.0, x) ∷ front) to
 leads_on g s x y front to e p l = record {
-    reads = λ more. keeps_at s x y e (front ++ more) ∙ l.reads more;
-    walks = λ more. ap (go (bare front ++ more)) e ∙ l.walks more;
-    within = (p, l.within) }
+  reads = λ more. keeps_at s x y e (front ++ more) ∙ l.reads more;
+  walks = λ more. ap (go (bare front ++ more)) e ∙ l.walks more;
+  within = (p, l.within);
+}
 
 -- no step leads on
 abbrev IsStuck : State → List Lexeme → Type 0
@@ -77,11 +78,26 @@ report_on : (g : Counted) (s : State) (x : Lexeme) (y : Role × State) (ts : Lis
     → step s x ≡ Some y → passed (count g (y.0, x)) y.0 ≡ None → Report (count g (y.0, x)) y.1 ts r → Report g s (x ∷ ts) r
 report_on g s x y ts (Ok ss) e p h = record { front = (y.0, x) ∷ h.front; whole = ap (λ xs. x ∷ xs) h.whole; leads = leads_on g s x y h.front (Between ss) e p h.leads }
 report_on g s x y ts (Err (Syntax n)) e p h = record {
-    front = (y.0, x) ∷ h.front; rest = h.rest; to = h.to; whole = ap (λ xs. x ∷ xs) h.whole; place = h.place;
-    leads = leads_on g s x y h.front h.to e p h.leads; stuck = h.stuck }
+  front = (y.0, x) ∷ h.front;
+  rest = h.rest;
+  to = h.to;
+  whole = ap (λ xs. x ∷ xs) h.whole;
+  place = h.place;
+  leads = leads_on g s x y h.front h.to e p h.leads;
+  stuck = h.stuck;
+}
 report_on g s x y ts (Err (Limit which n)) e p h = record {
-    front = (y.0, x) ∷ h.front; token = h.token; rest = h.rest; to = h.to; on = h.on; whole = ap (λ xs. x ∷ xs) h.whole; place = h.place;
-    leads = leads_on g s x y h.front h.to e p h.leads; stepped = h.stepped; passes = h.passes }
+  front = (y.0, x) ∷ h.front;
+  token = h.token;
+  rest = h.rest;
+  to = h.to;
+  on = h.on;
+  whole = ap (λ xs. x ∷ xs) h.whole;
+  place = h.place;
+  leads = leads_on g s x y h.front h.to e p h.leads;
+  stepped = h.stepped;
+  passes = h.passes;
+}
 
 report_end : (g : Counted) (s : State) → Report g s [] (ended s)
 report_end g (Between ss) = record { front = []; whole = refl; leads = stays g (Between ss) }
@@ -91,7 +107,17 @@ report_test : (x : Lexeme) (ts : List Lexeme) (g : Counted) (s : State) (y : Rol
     → (o : Option Which) → passed (count g (y.0, x)) y.0 ≡ o → Report g s (x ∷ ts) (unless_passed (run ts (count g (y.0, x)) y.1) (x ∷ ts) o)
 report_test x ts g s y e h None p = report_on g s x y ts (run ts (count g (y.0, x)) y.1) e p h
 report_test x ts g s y e h (Some which) p = record {
-    front = []; token = x; rest = ts; to = s; on = y; whole = refl; place = refl; leads = stays g s; stepped = e; passes = p }
+  front = [];
+  token = x;
+  rest = ts;
+  to = s;
+  on = y;
+  whole = refl;
+  place = refl;
+  leads = stays g s;
+  stepped = e;
+  passes = p;
+}
 
 report_step : (x : Lexeme) (ts : List Lexeme) (g : Counted) (s : State) → ((g' : Counted) (s' : State) → Report g' s' ts (run ts g' s'))
     → (o : Step) → step s x ≡ o → Report g s (x ∷ ts) (onward (run ts) (x ∷ ts) g x o)
@@ -133,11 +159,24 @@ means ts = at (run ts nothing_counted start) (report ts nothing_counted start)
         let same = front_is_text h.front ss h.leads in
         record { tokens = ap bare (sym same) ∙ h.whole; within = subst (IsWithin nothing_counted) same h.leads.within }
     at (Err (Syntax n)) h = record {
-      front = h.front; rest = h.rest; whole = h.whole; place = h.place; viable = viable h.front h.to h.leads;
-      within = h.leads.within; none = none_goes_on h.front h.rest h.to h.leads h.stuck }
+      front = h.front;
+      rest = h.rest;
+      whole = h.whole;
+      place = h.place;
+      viable = viable h.front h.to h.leads;
+      within = h.leads.within;
+      none = none_goes_on h.front h.rest h.to h.leads h.stuck;
+    }
     at (Err (Limit which n)) h = record {
-      front = h.front; token = (h.on.0, h.token); rest = h.rest; whole = h.whole; place = h.place;
-      viable = viable_on h.front h.token h.to h.on h.leads h.stepped; within = h.leads.within; passes = h.passes }
+      front = h.front;
+      token = (h.on.0, h.token);
+      rest = h.rest;
+      whole = h.whole;
+      place = h.place;
+      viable = viable_on h.front h.token h.to h.on h.leads h.stepped;
+      within = h.leads.within;
+      passes = h.passes;
+    }
 
 -- A text has one tree, and a run of it gives that tree.
 
@@ -163,10 +202,10 @@ within_at g (x ∷ front) m more h = within_at (count g x) front m more h.1
 not_over : (ts : List Lexeme) (ss : Statements) (which : Which) (n : ℕ) → Reads ts ss → OverAfter nothing_counted start ts which n → ⊥
 not_over ts ss which n r h =
     let on : walk h.rest h.on.1 ≡ Some (Between ss) =
-      sym (ap (go h.rest) h.stepped) ∙ sym (h.leads.walks (h.token ∷ h.rest)) ∙ ap (λ xs. walk xs start) (sym (r.tokens ∙ h.whole)) ∙ text_walks ss in
+    sym (ap (go h.rest) h.stepped) ∙ sym (h.leads.walks (h.token ∷ h.rest)) ∙ ap (λ xs. walk xs start) (sym (r.tokens ∙ h.whole)) ∙ text_walks ss in
     let d = trace h.rest h.on.1 (Between ss) on in
     let same : text ss ≡ h.front ++ (h.on.0, h.token) ∷ (d.marks ++ []) =
-      sym (d.reads []) ∙ sym (keeps_at h.to h.token h.on h.stepped (d.marks ++ [])) ∙ sym (h.leads.reads ((h.on.0, h.token) ∷ (d.marks ++ []))) in
+    sym (d.reads []) ∙ sym (keeps_at h.to h.token h.on h.stepped (d.marks ++ [])) ∙ sym (h.leads.reads ((h.on.0, h.token) ∷ (d.marks ++ []))) in
     let none = within_at nothing_counted h.front (h.on.0, h.token) (d.marks ++ []) (subst (IsWithin nothing_counted) same r.within) in
     let clash = sym none ∙ h.passes in cc
 

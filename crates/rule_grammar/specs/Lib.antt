@@ -5,3 +5,4 @@ pub mod Values
 pub mod Texts
 pub mod Lists
 pub mod Machine
+pub mod Shown

@@ -8,16 +8,16 @@ use Rattle.rule_grammar.specs.declared.faults.Which.{Which}
 use Rattle.rule_grammar.specs.declared.faults.Which.TheVariants.{Statements, Parts, Depth, Variables, TermDepth, TermWidth, Length}
 
 pub data Role : Type 0 where
-  Quiet : Role             -- nothing
-  Starts : ℕ → Role        -- it begins the n-th statement
-  Single : Role            -- a part of a rule
-  Binary : Role            -- a part that stands between two others
-  Nests : ℕ → Role         -- it opens a bracket, the n-th that is open
-  Deepens : ℕ → Role       -- it gives a term depth n
-  Counts : ℕ → Role        -- it stands before the n-th argument
-  Lists : Role             -- it stands before a further shown name
-  Lasts : ℕ → Role         -- a length
-  HasArity : ℕ → Role      -- the number of arguments of a shown name
+  Quiet : Role  -- nothing
+  Starts : ℕ → Role  -- it begins the n-th statement
+  Single : Role  -- a part of a rule
+  Binary : Role  -- a part that stands between two others
+  Nests : ℕ → Role  -- it opens a bracket, the n-th that is open
+  Deepens : ℕ → Role  -- it gives a term depth n
+  Counts : ℕ → Role  -- it stands before the n-th argument
+  Lists : Role  -- it stands before a further shown name
+  Lasts : ℕ → Role  -- a length
+  HasArity : ℕ → Role  -- the number of arguments of a shown name
 
 -- a token with its role
 abbrev pub Marked : Type 0

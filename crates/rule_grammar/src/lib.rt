@@ -2,5 +2,7 @@
 #![tactic(auto)]
 
 mod faults;
+mod laws;
 
 pub use faults::{Fault, Which};
+pub use laws::texts_are_shaped;

@@ -1,1 +1,5 @@
 pub mod Names
+pub mod TermRuns
+pub mod CondRuns
+pub mod PatternRuns
+pub mod Meanings

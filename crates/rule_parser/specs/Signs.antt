@@ -5,10 +5,14 @@ use Rattle.rule_tokens.specs.declared.lexemes.Lexeme.TheVariants as t
 use Rattle.rule_grammar.specs.Trees.{Adding.Added, Adding.Taken, Scaling.Times, Scaling.Over, Scaling.Modulo, Joint.Joined, Joint.Otherwise}
 use Rattle.rule_grammar.specs.Trees as trees
 use Rattle.rule_grammar.specs.Tokens.{adding, scaling, joint}
+use Rattle.rule_ast.specs.Trees as plain
+use Rattle.rule_ast.specs.Trees.{PlainPattern}
 use Rattle.rule_parser.specs.declared.signs.Sign.{Sign}
 use Rattle.rule_parser.specs.declared.signs.Sign.TheVariants as sign
 use Rattle.rule_parser.specs.declared.signs.Joint.{Joint}
 use Rattle.rule_parser.specs.declared.signs.Joint.TheVariants as joints
+use Rattle.rule_parser.specs.declared.signs.Bound.{Bound}
+use Rattle.rule_parser.specs.declared.signs.Bound.TheVariants as bounds
 use Rattle.rule_parser.specs.declared.signs.Adding.{Adding}
 use Rattle.rule_parser.specs.declared.signs.Adding.TheVariants as addings
 use Rattle.rule_parser.specs.declared.signs.Scaling.{Scaling}
@@ -69,6 +73,10 @@ scaling_of scalings.Percent = Modulo
 abbrev pub joint_lexeme : Joint → Lexeme
 joint_lexeme j = joint (joint_of j)
 
+abbrev pub bound_lexeme : Bound → Lexeme
+bound_lexeme bounds.Exact = t.Length
+bound_lexeme bounds.Most = t.Within
+
 abbrev pub adding_lexeme : Adding → Lexeme
 adding_lexeme a = adding (adding_of a)
 
@@ -85,6 +93,11 @@ LacksJoint (t.Op op ∷ xs) = ⊥
 LacksJoint (t.Or ∷ xs) = ⊥
 LacksJoint xs = Unit {0}
 
+abbrev pub LacksBound : List Lexeme → Type 0
+LacksBound (t.Length ∷ xs) = ⊥
+LacksBound (t.Within ∷ xs) = ⊥
+LacksBound xs = Unit {0}
+
 abbrev pub LacksAdding : List Lexeme → Type 0
 LacksAdding (t.Plus ∷ xs) = ⊥
 LacksAdding (t.Minus ∷ xs) = ⊥
@@ -99,3 +112,7 @@ LacksScaling xs = Unit {0}
 abbrev pub LacksCompare : List Lexeme → Type 0
 LacksCompare (t.Compare cmp ∷ xs) = ⊥
 LacksCompare xs = Unit {0}
+
+abbrev pub bounded_value : Bound → PlainPattern → ℕ → PlainPattern
+bounded_value bounds.Exact p q = plain.Exact p q
+bounded_value bounds.Most p q = plain.Within p q

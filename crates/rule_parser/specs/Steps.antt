@@ -1,8 +1,13 @@
 -- What a function that reads tokens gives, under every context in which they can stand.
-use Rattle.std.specs.Prelude.{◌≡◌, ℕ, ◌+◌, ◌<◌, ◌≤◌, Bool, true, false, List, [], ◌∷◌, ◌++◌, length, Option, Some, None, Result, Ok, Err}
+use Rattle.std.specs.Prelude.{◌≡◌, ℕ, ◌+◌, ◌^◌, ◌<◌, ◌≤◌, Bool, true, false, List, [], ◌∷◌, ◌++◌, length, Option, Some, None, Result, Ok, Err}
 use Rattle.std.specs.List.{list_any}
 use Rattle.std.specs.Str.{bytes_eq}
+use Rattle.std.specs.Prelude.{Box}
 use Rattle.std.specs.Borrow.{Bor}
+use Rattle.rule_ast.specs.declared.patterns.Pattern.{Pattern}
+use Rattle.rule_ast.specs.Trees.{PlainPattern}
+use Rattle.rule_ast.specs.Plain.{plain_pattern}
+use Rattle.std.specs.declared.vec.Vec.{Vec}
 use Rattle.ev_term.specs.declared.terms.Pat.{Pat}
 use Rattle.rule_tokens.specs.declared.lexemes.Lexeme.{Lexeme}
 use Rattle.rule_tokens.specs.declared.lexemes.Lexeme.TheVariants as t
@@ -11,12 +16,13 @@ use Rattle.rule_grammar.specs.declared.faults.Which.TheVariants as which
 use Rattle.rule_grammar.specs.declared.faults.Fault.{Fault}
 use Rattle.rule_grammar.specs.declared.faults.Fault.TheVariants as fault
 use Rattle.rule_grammar.specs.Trees.{Literal, Literal.Digits, Literal.Minus, Literal.Least, Literal.Symbol, Literal.Quoted, Term, Arguments, Wanted, Wanted.Variable, Wanted.Anything, HeadTerm, HeadTerms, Heading, Condition, All, Negation, Comparison, Sum, Product, Unit', Tree, Chain, Part, Round, Statements}
-use Rattle.rule_grammar.specs.Marks.{Role, Counted, count, passed, with_name, with_parts}
-use Rattle.rule_grammar.specs.Marks.{Role.Quiet, Role.Single}
+use Rattle.rule_grammar.specs.Marks.{Role, Marked, Counted, count, count_all, passed, with_name, with_parts}
+use Rattle.rule_grammar.specs.Marks.{Role.Quiet, Role.Single, Role.Binary}
 use Rattle.rule_grammar.specs.Values.{slot_of, variable, wanted_value, never_value, literal_value, term_value, arguments_value, head_term_value, head_terms_value, condition_value, all_value, negation_value, comparison_value, sum_value, product_value, unit_value, tree_value, chain_value, part_value, round_value}
+use Rattle.rule_grammar.specs.Tokens.{never, wanted, term, arguments, head_term, condition, all, negation, comparison, sum, product, unit, tree, chain, part, round}
 use Rattle.rule_grammar.specs.Lists.{Before, Before.Start, Nest, ListState, ListState.WantTerm, ListState.HaveName, Turn, level, behind_terms, put_term}
 use Rattle.rule_grammar.specs.Machine.{ChainHead, ChainHead.FirstPart, TermsHead, Stack, Where', OrHead, AndHead.FirstNegation, NotHead, NotHead.NoBang, CompareHead, SumHead, ProductHead, ProductHead.FirstUnit, CompareHead.FirstSum, AtomPlace, OperandPlace, HeadPlace, State, State.InHead, State.InAtom, State.InOperand, State.WantPart, State.WantOpen, State.AtomName, State.HaveRound, State.WantNegation, State.WantUnit, State.UnitName, State.WantHeadTerm, State.HeadWord}
-use Rattle.rule_grammar.specs.Machine.{Step, put, put_head, depth, where_depth, or_depth, not_depth, compare_depth, sum_depth, product_depth, have_unit, over_negation, first_all, first_unit, behind, behind_chain, behind_condition, behind_all, behind_negation, behind_comparison, behind_all_products, behind_product, behind_unit, behind_head_terms, reads_nothing, reads_wanted, reads_variable, in_head, in_atom, in_operand, step, onward, run}
+use Rattle.rule_grammar.specs.Machine.{Step, to, put, put_head, depth, where_depth, or_depth, not_depth, compare_depth, sum_depth, product_depth, have_unit, over_negation, first_all, first_unit, behind, behind_chain, behind_condition, behind_all, behind_negation, behind_comparison, behind_all_products, behind_product, behind_unit, behind_head_terms, reads_nothing, reads_wanted, reads_variable, in_head, in_atom, in_operand, step, onward, run}
 use Rattle.rule_parser.specs.declared.faults.Stop.{Stop}
 use Rattle.rule_parser.specs.declared.faults.Stop.TheVariants as stop
 use Rattle.rule_parser.specs.declared.ledger.Ledger.{Ledger}
@@ -53,9 +59,10 @@ abbrev pub resume : (Lexeme → Step) → List Lexeme → Counted → Result Sta
 resume b [] g = Err (fault.Syntax 0)
 resume b (x ∷ xs) g = onward (run xs) (x ∷ xs) g x (b x)
 
--- a kind of tree: the contexts in which one can stand, how deep inside of brackets they are, the state that wants one, and how
--- a token behind it is met
+-- a kind of tree: its tokens, the contexts in which one can stand, how deep inside of brackets they are, the state that wants
+-- one, and how a token behind it is met
 pub record Level (C T : Type 0) : Type 0 where
+  pub tokens : ℕ → T → List Marked → List Marked
   pub depth : C → ℕ
   pub state : C → State
   pub behind : C → T → Lexeme → Step
@@ -71,6 +78,7 @@ pub record Read {C T V : Type 0} (L : Level C T) (value : List (List ℕ) → T 
   pub grows : Extends g.names g'.names
   pub fine : Fine g'
   pub shorter : length rest < length ts
+  pub counts : (more : List Marked) → count_all g (L.tokens d tree more) ≡ count_all g' more
   pub runs : Runs L ts d g tree g' rest
 
 -- it is read, or the machine stops with this fault under every context
@@ -78,15 +86,26 @@ abbrev pub Answer : {C T V R : Type 0} → Level C T → (List (List ℕ) → T 
 Answer L value plain ts d g g' (Ok x) = Read L value ts d g g' (plain x.0) x.1.now
 Answer {C} L value plain ts d g g' (Err e) = (c : C) → L.depth c ≡ d → Fails e (run ts g (L.state c))
 
+-- the same, where besides some token doesn't stand behind what was read
+abbrev pub AnswerTo : {C T V R : Type 0} → Level C T → (List (List ℕ) → T → V) → (R → V) → (List Lexeme → Type 0) → List Lexeme → ℕ → Counted → Counted → Result (R × Bor (List Lexeme)) Stop → Type 0
+AnswerTo L value plain Over ts d g g' (Ok x) = Read L value ts d g g' (plain x.0) x.1.now × Over x.1.now
+AnswerTo {C} L value plain Over ts d g g' (Err e) = (c : C) → L.depth c ≡ d → Fails e (run ts g (L.state c))
+
 abbrev pub same : {A : Type 0} → A → A
 same a = a
 
+-- a token leads from behind a tree to where another one is wanted
+pub record Link {C T C' T' : Type 0} (L : Level C T) (E : Level C' T') (x : Lexeme) : Type 0 where
+  pub next : C → T → C'
+  pub goes : (c : C) (tree : T) → L.behind c tree x ≡ to Binary (E.state (next c tree))
+  pub deep : (c : C) (tree : T) → E.depth (next c tree) ≡ L.depth c
+
 -- Lists of arguments, by what may stand for a term: nothing, a variable, a variable or `_`.
 
-abbrev pub Leaf : Kind → Type 0
-Leaf Ground = ⊥
-Leaf Operand = List ℕ
-Leaf Argument = Wanted
+abbrev pub Leaves : Kind → Type 0
+Leaves Ground = ⊥
+Leaves Operand = List ℕ
+Leaves Argument = Wanted
 
 abbrev pub Place : Kind → Type 0
 Place Ground = HeadPlace
@@ -98,62 +117,64 @@ base Ground = 2
 base Operand = 2
 base Argument = 1
 
-abbrev pub leaf_read : (k : Kind) → Lexeme → Option (Leaf k)
+abbrev pub leaf_read : (k : Kind) → Lexeme → Option (Leaves k)
 leaf_read Ground x = reads_nothing x
 leaf_read Operand x = reads_variable x
 leaf_read Argument x = reads_wanted x
 
-abbrev pub in_list : (k : Kind) → ListState (Leaf k) (Place k) → State
+abbrev pub in_list : (k : Kind) → ListState (Leaves k) (Place k) → State
 in_list Ground s = InHead s
 in_list Operand s = InOperand s
 in_list Argument s = InAtom s
 
-abbrev pub turn_of : (k : Kind) → Turn (Leaf k) (Place k) → Step
+abbrev pub turn_of : (k : Kind) → Turn (Leaves k) (Place k) → Step
 turn_of Ground s = in_head s
 turn_of Operand s = in_operand s
 turn_of Argument s = in_atom s
 
-abbrev pub leaf_value : (k : Kind) → List (List ℕ) → Leaf k → Pat
+abbrev pub leaf_value : (k : Kind) → List (List ℕ) → Leaves k → Pat
 leaf_value Ground names w = never_value w
 leaf_value Operand names w = variable names w
 leaf_value Argument names w = wanted_value names w
 
-abbrev pub term_of : (k : Kind) → List (List ℕ) → Term (Leaf k) → Pat
+abbrev pub leaf_lexeme : (k : Kind) → Leaves k → Lexeme
+leaf_lexeme Ground w = never w
+leaf_lexeme Operand w = t.Var w
+leaf_lexeme Argument w = wanted w
+
+abbrev pub term_of : (k : Kind) → List (List ℕ) → Term (Leaves k) → Pat
 term_of k names a = term_value (leaf_value k names) a
 
-abbrev pub terms_of : (k : Kind) → List (List ℕ) → Arguments (Leaf k) → List Pat
+abbrev pub terms_of : (k : Kind) → List (List ℕ) → Arguments (Leaves k) → List Pat
 terms_of k names as' = arguments_value (leaf_value k names) as'
 
 abbrev pub Within : Kind → Type 0
-Within k = Nest (Leaf k) (Place k) × Before (Leaf k)
+Within k = Nest (Leaves k) (Place k) × Before (Leaves k)
 
-abbrev pub term_level : (k : Kind) → Level (Within k) (Term (Leaf k))
+abbrev pub term_level : (k : Kind) → Level (Within k) (Term (Leaves k))
 term_level k = record {
+    tokens = λ d a more. term (leaf_lexeme k) Quiet d a more;
     depth = λ c. level (base k) c.0;
     state = λ c. in_list k (WantTerm c.0 c.1);
     behind = λ c a x. turn_of k (behind_terms c.0 (put_term c.1 a) x) }
 
--- behind a name that stands first
-abbrev pub named_level : (k : Kind) → List ℕ → Level (Within k) (Term (Leaf k))
-named_level k name = record {
-    depth = λ c. level (base k) c.0;
-    state = λ c. in_list k (HaveName c.0 c.1 name);
-    behind = λ c a x. turn_of k (behind_terms c.0 (put_term c.1 a) x) }
-
 -- arguments without the bracket that closes their list
-abbrev pub terms_level : (k : Kind) → Level (Nest (Leaf k) (Place k)) (Arguments (Leaf k))
+abbrev pub terms_level : (k : Kind) → Level (Nest (Leaves k) (Place k)) (Arguments (Leaves k))
 terms_level k = record {
+    tokens = λ d as' more. arguments (leaf_lexeme k) d as' more;
     depth = λ n. level (base k) n;
     state = λ n. in_list k (WantTerm n Start);
     behind = λ n as' x. turn_of k (behind_terms n as' x) }
 
 -- arguments were read, and the bracket behind them
 pub record ListRead (k : Kind) (ts : List Lexeme) (d : ℕ) (g g' : Counted) (vs : List Pat) (rest : List Lexeme) : Type 0 where
-  pub read : (closed : List Lexeme) × (closed ≡ t.Close ∷ rest) × Read (terms_level k) (terms_of k) ts d g g' vs closed
+  pub closed : List Lexeme
+  pub close : closed ≡ t.Close ∷ rest
+  pub read : Read (terms_level k) (terms_of k) ts d g g' vs closed
 
-abbrev pub ListAnswer : (k : Kind) → List Lexeme → ℕ → Counted → Counted → Result (List Pat × Bor (List Lexeme)) Stop → Type 0
-ListAnswer k ts d g g' (Ok x) = ListRead k ts d g g' x.0 x.1.now
-ListAnswer k ts d g g' (Err e) = (n : Nest (Leaf k) (Place k)) → level (base k) n ≡ d → Fails e (run ts g (in_list k (WantTerm n Start)))
+abbrev pub ListAnswer : {Z : Type 0} (k : Kind) → List Lexeme → ℕ → Counted → Counted → Result (Vec Pat Z × Bor (List Lexeme)) Stop → Type 0
+ListAnswer k ts d g g' (Ok x) = ListRead k ts d g g' x.0.items x.1.now
+ListAnswer k ts d g g' (Err e) = (n : Nest (Leaves k) (Place k)) → level (base k) n ≡ d → Fails e (run ts g (in_list k (WantTerm n Start)))
 
 -- Terms of one word but for a name.
 
@@ -197,6 +218,33 @@ WordAnswer ts (Ok None) = LacksWord ts
 WordAnswer ts (Err stop.Memory) = Unit {0}
 WordAnswer ts (Err (stop.Fault f)) = WordFails ts f
 
+abbrev pub NegativeAnswer : List Lexeme → Result (Pat × Bor (List Lexeme)) Stop → Type 0
+NegativeAnswer ts (Ok x) = WordRead (t.Minus ∷ ts) x.0 x.1.now
+NegativeAnswer ts (Err stop.Memory) = Unit {0}
+NegativeAnswer ts (Err (stop.Fault f)) = (f ≡ fault.Syntax (length ts)) × LacksDigits ts
+
+-- What stands for a term and is none.
+
+pub record LeafRead (k : Kind) (x : Lexeme) (g g' : Counted) (v : Pat) : Type 0 where
+  pub leaf : Leaves k
+  pub reads : leaf_read k x ≡ Some leaf
+  pub says : (names : List (List ℕ)) → Extends g'.names names → leaf_value k names leaf ≡ v
+  pub grows : Extends g.names g'.names
+  pub counts : count g (Quiet, x) ≡ g'
+  pub fine : Fine g'
+
+pub record LeafFails (ts : List Lexeme) (k : Kind) (x : Lexeme) (g : Counted) (f : Fault) : Type 0 where
+  pub leaf : Leaves k
+  pub reads : leaf_read k x ≡ Some leaf
+  pub place : f ≡ fault.Limit which.Variables (length ts)
+  pub passes : passed (count g (Quiet, x)) Quiet ≡ Some which.Variables
+
+abbrev pub LeafAnswer : List Lexeme → Lexeme → Kind → Counted → Counted → Result (Option Pat) Stop → Type 0
+LeafAnswer ts x k g g' (Ok (Some v)) = LeafRead k x g g' v
+LeafAnswer ts x k g g' (Ok None) = leaf_read k x ≡ None
+LeafAnswer ts x k g g' (Err stop.Memory) = Unit {0}
+LeafAnswer ts x k g g' (Err (stop.Fault f)) = LeafFails ts k x g f
+
 -- Variables.
 
 abbrev pub SlotStops : List Lexeme → Counted → List ℕ → Stop → Type 0
@@ -205,52 +253,77 @@ SlotStops ts g name (stop.Fault f) = (f ≡ fault.Limit which.Variables (length 
 
 -- Conditions.
 
-abbrev pub unit_level : Level ProductHead Unit'
-unit_level = record { depth = product_depth; state = WantUnit; behind = λ h u x. behind_unit (have_unit h u) x }
+abbrev pub begins_word : Lexeme → Bool
+begins_word (t.Number n) = true
+begins_word (t.Text text) = true
+begins_word t.Minus = true
+begins_word x = false
 
-abbrev pub named_unit_level : List ℕ → Level ProductHead Unit'
-named_unit_level name = record { depth = product_depth; state = λ h. UnitName h name; behind = λ h u x. behind_unit (have_unit h u) x }
+abbrev pub unit_level : Level ProductHead Unit'
+unit_level = record { tokens = unit; depth = product_depth; state = WantUnit; behind = λ h u x. behind_unit (have_unit h u) x }
 
 abbrev pub product_level : Level SumHead Product
-product_level = record { depth = sum_depth; state = λ h. WantUnit (FirstUnit h); behind = behind_product }
+product_level = record { tokens = product; depth = sum_depth; state = λ h. WantUnit (FirstUnit h); behind = behind_product }
 
 abbrev pub sum_level : Level CompareHead Sum
-sum_level = record { depth = compare_depth; state = λ c. WantUnit (first_unit c); behind = λ c s x. behind_all_products (c, s) x }
+sum_level = record { tokens = sum; depth = compare_depth; state = λ c. WantUnit (first_unit c); behind = λ c s x. behind_all_products (c, s) x }
 
 abbrev pub comparison_level : Level NotHead Comparison
-comparison_level = record { depth = not_depth; state = λ n. WantUnit (first_unit (FirstSum n)); behind = behind_comparison }
+comparison_level = record { tokens = comparison; depth = not_depth; state = λ n. WantUnit (first_unit (FirstSum n)); behind = behind_comparison }
 
 abbrev pub negation_level : Level NotHead Negation
-negation_level = record { depth = not_depth; state = WantNegation; behind = λ h n x. behind_negation (over_negation h n).0 (over_negation h n).1 x }
+negation_level = record { tokens = negation; depth = not_depth; state = WantNegation; behind = λ h n x. behind_negation (over_negation h n).0 (over_negation h n).1 x }
 
 abbrev pub all_level : Level OrHead All
-all_level = record { depth = or_depth; state = λ o. WantNegation (NoBang (FirstNegation o)); behind = behind_all }
+all_level = record { tokens = all; depth = or_depth; state = λ o. WantNegation (NoBang (FirstNegation o)); behind = behind_all }
 
 abbrev pub condition_level : Level Where' Condition
-condition_level = record { depth = where_depth; state = λ w. WantNegation (first_all w); behind = behind_condition }
+condition_level = record { tokens = condition; depth = where_depth; state = λ w. WantNegation (first_all w); behind = behind_condition }
 
 -- Patterns.
+
+abbrev pub boxed_pattern : {Z : Type 0} → Box Pattern Z → PlainPattern
+boxed_pattern b = plain_pattern b.value
 
 abbrev pub PartPlace : Type 0
 PartPlace = ChainHead × Stack
 
 abbrev pub part_level : Level PartPlace Part
-part_level = record { depth = λ c. depth c.1; state = λ c. WantPart c.0 c.1; behind = λ c p x. behind_chain c.1 (put c.0 p) x }
-
-abbrev pub named_part_level : List ℕ → Level PartPlace Part
-named_part_level name = record { depth = λ c. depth c.1; state = λ c. AtomName c.0 c.1 name; behind = λ c p x. behind_chain c.1 (put c.0 p) x }
-
-abbrev pub without_level : Level PartPlace Part
-without_level = record { depth = λ c. depth c.1; state = λ c. WantOpen c.0 c.1; behind = λ c p x. behind_chain c.1 (put c.0 p) x }
+part_level = record { tokens = part; depth = λ c. depth c.1; state = λ c. WantPart c.0 c.1; behind = λ c p x. behind_chain c.1 (put c.0 p) x }
 
 abbrev pub round_level : Level PartPlace Round
-round_level = record { depth = λ c. depth c.1; state = λ c. WantPart c.0 c.1; behind = λ c r x. step (HaveRound c.0 r c.1) x }
+round_level = record { tokens = round; depth = λ c. depth c.1; state = λ c. WantPart c.0 c.1; behind = λ c r x. step (HaveRound c.0 r c.1) x }
 
 abbrev pub chain_level : Level Stack Chain
-chain_level = record { depth = depth; state = WantPart FirstPart; behind = behind_chain }
+chain_level = record { tokens = chain; depth = depth; state = WantPart FirstPart; behind = behind_chain }
 
 abbrev pub tree_level : Level Stack Tree
-tree_level = record { depth = depth; state = WantPart FirstPart; behind = behind }
+tree_level = record { tokens = tree; depth = depth; state = WantPart FirstPart; behind = behind }
+
+-- Lengths.
+
+abbrev pub LacksNumber : List Lexeme → Type 0
+LacksNumber (t.Number n ∷ xs) = ⊥
+LacksNumber xs = Unit {0}
+
+pub record LengthRead (ts : List Lexeme) (q : ℕ) (rest : List Lexeme) : Type 0 where
+  pub tokens : ts ≡ t.Number q ∷ rest
+  pub within : q ≤ 2 ^ 62
+
+pub record TooLong (ts : List Lexeme) : Type 0 where
+  pub q : ℕ
+  pub rest : List Lexeme
+  pub tokens : ts ≡ t.Number q ∷ rest
+  pub over : 2 ^ 62 < q
+
+abbrev pub LengthFails : List Lexeme → Fault → Type 0
+LengthFails ts (fault.Syntax left) = (left ≡ length ts) × LacksNumber ts
+LengthFails ts (fault.Limit w left) = (w ≡ which.Length) × (left ≡ length ts) × TooLong ts
+
+abbrev pub LengthAnswer : List Lexeme → Result (ℕ × Bor (List Lexeme)) Stop → Type 0
+LengthAnswer ts (Ok x) = LengthRead ts x.0 x.1.now
+LengthAnswer ts (Err stop.Memory) = ⊥
+LengthAnswer ts (Err (stop.Fault f)) = LengthFails ts f
 
 -- Terms of heads.
 
@@ -258,7 +331,4 @@ abbrev pub HeadTermPlace : Type 0
 HeadTermPlace = Statements × List ℕ × TermsHead
 
 abbrev pub head_term_level : Level HeadTermPlace HeadTerm
-head_term_level = record { depth = λ c. 0; state = λ c. WantHeadTerm c.0 c.1 c.2; behind = λ c a x. behind_head_terms c.0 c.1 (put_head c.2 a) x }
-
-abbrev pub named_head_term_level : List ℕ → Level HeadTermPlace HeadTerm
-named_head_term_level w = record { depth = λ c. 0; state = λ c. HeadWord c.0 c.1 c.2 w; behind = λ c a x. behind_head_terms c.0 c.1 (put_head c.2 a) x }
+head_term_level = record { tokens = λ d a more. head_term a more; depth = λ c. 0; state = λ c. WantHeadTerm c.0 c.1 c.2; behind = λ c a x. behind_head_terms c.0 c.1 (put_head c.2 a) x }

@@ -1,13 +1,13 @@
 //! What a rule has used up of its limits.
 
-ghost use Rattle.std.specs.Prelude.{◌≡◌, ◌≤◌, ◌<◌, ◌+◌, true, false, length, OnOk, IfOk, IfErr, MatchOption};
+ghost use Rattle.std.specs.Prelude.{◌≡◌, ◌≤◌, ◌<◌, ◌+◌, true, false, length, ℕ, List, OnOk, IfOk, IfErr, MatchOption};
 ghost use Rattle.std.specs.List.{list_any};
 ghost use Rattle.std.specs.Str.{bytes_eq};
 ghost use Rattle.rule_grammar.specs.declared.faults.Fault.TheVariants as fault;
 ghost use Rattle.rule_grammar.specs.declared.faults.Which.TheVariants.{Parts};
 ghost use Rattle.rule_grammar.specs.Marks.{with_name};
 ghost use Rattle.rule_grammar.specs.Values.{slot_of};
-ghost use Rattle.rule_parser.specs.Steps.{counted, Fine, with_part, with_variable, SlotStops};
+ghost use Rattle.rule_parser.specs.Steps.{counted, Fine, with_part, with_variable, SlotStops, Extends};
 
 use crate::faults::Stop;
 use crate::signs::limit;
@@ -56,7 +56,7 @@ pub fn add_part(ledger: &mut Ledger, tokens: &[Lexeme]) -> Result<(), Stop>
 /// The slot of a variable, which is a new one where its name hasn't stood before. Its token stands first.
 pub fn slot_of(ledger: &mut Ledger, name: &Name, tokens: &[Lexeme]) -> Result<Slot, Stop>
     requires { Fine (counted ledger.old) }
-    ensures slot { IfOk result (λ s. s ≡ slot_of ledger.new.names.items name.now) }
+    ensures slot { IfOk result (λ s. (names : List (List ℕ)) → Extends ledger.new.names.items names → slot_of names name.now ≡ s) }
     ensures ok { OnOk result (counted ledger.new ≡ with_variable (counted ledger.old) name.now) }
     ensures fine { OnOk result (Fine (with_variable (counted ledger.old) name.now)) }
     ensures err { IfErr result (SlotStops tokens.now (counted ledger.old) name.now) }

@@ -2,7 +2,7 @@
 
 ghost use Rattle.std.specs.Prelude.{◌≡◌, ◌∷◌, [], length, IfOk, IfErr, OnErr, MatchOption, Some};
 ghost use Rattle.rule_grammar.specs.Values.{adding_value, scaling_value};
-ghost use Rattle.rule_parser.specs.Signs.{sign_of, lexeme_of, adding_of, scaling_of, joint_lexeme, adding_lexeme, scaling_lexeme, Lacks, LacksJoint, LacksAdding, LacksScaling, LacksCompare};
+ghost use Rattle.rule_parser.specs.Signs.{sign_of, lexeme_of, adding_of, scaling_of, joint_lexeme, bound_lexeme, adding_lexeme, scaling_lexeme, Lacks, LacksJoint, LacksBound, LacksAdding, LacksScaling, LacksCompare};
 ghost use Rattle.rule_tokens.specs.declared.lexemes.Lexeme.TheVariants as made;
 ghost use Rattle.rule_grammar.specs.declared.faults.Fault.TheVariants as fault;
 ghost use Rattle.rule_grammar.specs.declared.faults.Which.{Which};
@@ -40,6 +40,13 @@ pub enum Sign {
 pub enum Joint {
     Span(Op),
     Or,
+}
+
+/// What stands before a length.
+#[derive(Clone, Copy)]
+pub enum Bound {
+    Exact,
+    Most,
 }
 
 /// What stands between two products.
@@ -185,6 +192,17 @@ pub fn take_compare(tokens: &[Lexeme]) -> Option<(Cmp, &[Lexeme])>
     let (first, rest) = take_first(tokens)?;
     match first {
         Lexeme::Compare(cmp) => Some((*cmp, rest)),
+        _ => None,
+    }
+}
+
+pub fn take_bound(tokens: &[Lexeme]) -> Option<(Bound, &[Lexeme])>
+    ensures { MatchOption result (LacksBound tokens.now) (λ x. tokens.now ≡ bound_lexeme x.0 ∷ x.1.now) }
+{
+    let (first, rest) = take_first(tokens)?;
+    match first {
+        Lexeme::Length => Some((Bound::Exact, rest)),
+        Lexeme::Within => Some((Bound::Most, rest)),
         _ => None,
     }
 }

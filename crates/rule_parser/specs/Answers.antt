@@ -1,0 +1,81 @@
+-- Which rules a text holds, and where another text goes wrong.
+use Rattle.std.specs.Prelude.{◌≡◌, ℕ, ◌-◌, ◌⊎◌, Bool, true, false, List, [], ◌∷◌, length, drop, Result, Ok, Err}
+use Rattle.rule_ast.specs.Trees.{PlainStatement}
+use Rattle.rule_ast.specs.Plain.{plain_rules}
+use Rattle.rule_ast.specs.declared.statements.RuleSet.{RuleSet}
+use Rattle.rule_tokens.specs.declared.lexemes.Lexeme.{Lexeme}
+use Rattle.rule_tokens.specs.Lexing.{Lexing}
+use Rattle.rule_grammar.specs.declared.faults.Which.{Which}
+use Rattle.rule_grammar.specs.Trees.{Statements}
+use Rattle.rule_grammar.specs.Marks.{Marked, nothing_counted}
+use Rattle.rule_grammar.specs.Tokens.{bare}
+use Rattle.rule_grammar.specs.Texts.{IsWithin, Reads, Viable, SyntaxAt, LimitAt}
+use Rattle.rule_grammar.specs.Values.{text_value}
+use Rattle.rule_parser.specs.declared.faults.ParseFault.{ParseFault}
+use Rattle.rule_parser.specs.declared.faults.ParseFault.TheVariants.{Syntax, Limit, Memory}
+
+-- the tokens of the whole text are a text of the grammar within the limits, and it says these rules
+pub record Holds (text : List ℕ) (rules : List PlainStatement) : Type 0 where
+  pub lexemes : List Lexeme
+  pub places : List ℕ
+  pub end : ℕ
+  pub lexing : Lexing text 0 lexemes places end true
+  pub tree : Statements
+  pub reads : Reads lexemes tree
+  pub says : text_value tree ≡ rules
+
+-- the first element, or another value where there is none
+abbrev pub first_or : ℕ → List ℕ → ℕ
+first_or n [] = n
+first_or n (x ∷ xs) = x
+
+-- the place of the token with which so many are left, or of the end
+abbrev pub place_of : List ℕ → ℕ → ℕ → ℕ
+place_of places end left = first_or end (drop (length places - left) places)
+
+-- a text of the grammar begins with all these tokens, and none of them passes a limit
+pub record Begins (lexemes : List Lexeme) : Type 0 where
+  pub marks : List Marked
+  pub tokens : bare marks ≡ lexemes
+  pub viable : Viable marks
+  pub within : IsWithin nothing_counted marks
+
+-- bad syntax at a token or at the end of the tokens; or all tokens are well and no token begins where they end
+abbrev pub Wrong : List Lexeme → Bool → ℕ → Type 0
+Wrong lexemes true left = SyntaxAt lexemes left
+Wrong lexemes false left = SyntaxAt lexemes left ⊎ ((left ≡ 0) × Begins lexemes)
+
+-- the first place with which no text of the grammar goes on
+pub record SyntaxIn (text : List ℕ) (at : ℕ) : Type 0 where
+  pub lexemes : List Lexeme
+  pub places : List ℕ
+  pub end : ℕ
+  pub whole : Bool
+  pub lexing : Lexing text 0 lexemes places end whole
+  pub left : ℕ
+  pub wrong : Wrong lexemes whole left
+  pub place : at ≡ place_of places end left
+
+-- the place of the first token that passes a limit, in a text that is good so far
+pub record LimitIn (text : List ℕ) (which : Which) (at : ℕ) : Type 0 where
+  pub lexemes : List Lexeme
+  pub places : List ℕ
+  pub end : ℕ
+  pub whole : Bool
+  pub lexing : Lexing text 0 lexemes places end whole
+  pub left : ℕ
+  pub passed : LimitAt lexemes which left
+  pub place : at ≡ place_of places end left
+
+abbrev pub Answers : List ℕ → Result RuleSet ParseFault → Type 0
+Answers text (Ok r) = Holds text (plain_rules r)
+Answers text (Err (Syntax at)) = SyntaxIn text at
+Answers text (Err (Limit which at)) = LimitIn text which at
+Answers text (Err Memory) = Unit {0}
+
+-- these rules, unless memory ran out
+abbrev pub Gives : List PlainStatement → Result RuleSet ParseFault → Type 0
+Gives rules (Ok r) = plain_rules r ≡ rules
+Gives rules (Err (Syntax at)) = ⊥
+Gives rules (Err (Limit which at)) = ⊥
+Gives rules (Err Memory) = Unit {0}

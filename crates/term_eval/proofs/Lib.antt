@@ -1,0 +1,4 @@
+pub mod Checked
+pub mod Equal
+pub mod Places
+pub mod Arguments
