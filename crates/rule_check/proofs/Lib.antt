@@ -1,1 +1,3 @@
 pub mod Safety
+pub mod FirstOutside
+pub mod FirstOffender

@@ -1,3 +1,4 @@
 pub mod Offenders
+pub mod Allowed
 pub mod Sound
 pub mod Faults

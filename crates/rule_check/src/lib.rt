@@ -3,5 +3,7 @@
 #![tactic(auto)]
 
 mod faults;
+mod offenders;
+mod outside;
 
 pub use faults::CheckFault;
