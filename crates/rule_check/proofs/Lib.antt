@@ -1,3 +1,5 @@
 pub mod Safety
 pub mod FirstOutside
 pub mod FirstOffender
+pub mod Named
+pub mod CleanRules

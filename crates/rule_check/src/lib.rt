@@ -5,5 +5,6 @@
 mod faults;
 mod offenders;
 mod outside;
+mod variables;
 
 pub use faults::CheckFault;

@@ -1,13 +1,22 @@
 // The first variable of a pattern that stands where it may not.
 ghost use Rattle.std.specs.Prelude.{◌≡◌, ℕ, ◌&&◌};
 ghost use Rattle.ev_term.specs.SlotSets.{slot_in};
-ghost use Rattle.rule_ast.specs.Plain.{plain_pattern};
+ghost use Rattle.rule_ast.specs.Plain.{plain_pattern, plain_rule};
 ghost use Rattle.rule_check.specs.Allowed.{allowed};
-ghost use Rattle.rule_check.specs.Offenders.{first, where_offenders, or_offenders, not_offenders};
+ghost use Rattle.rule_check.specs.Offenders.{first, head_offenders, where_offenders, or_offenders, not_offenders};
 
 use crate::outside::{outside_arguments, outside_condition};
 use ev_term::{Slot, Slots};
-use rule_ast::{Pattern, vars_of};
+use rule_ast::{Pattern, Rule, vars_of};
+
+// The first variable of a head that the body doesn't have.
+#[tactic(auto, using(crate::proofs::FirstOffender::own_set))]
+pub(crate) fn head_offender(rule: &Rule) -> Option<Slot>
+    ensures { result ≡ first (head_offenders (plain_rule rule.now)) }
+{
+    let own = Some(vars_of(&rule.body));
+    outside_arguments(rule.head.args.as_slice(), &own)
+}
 
 // The first variable of a condition that its WHERE's own pattern doesn't have.
 #[tactic(auto, using(crate::proofs::FirstOffender::where_steps))]
