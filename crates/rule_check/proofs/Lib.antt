@@ -3,3 +3,4 @@ pub mod FirstOutside
 pub mod FirstOffender
 pub mod Named
 pub mod CleanRules
+pub mod Places

@@ -1,4 +1,5 @@
 pub mod Offenders
 pub mod Allowed
 pub mod Sound
+pub mod Names
 pub mod Faults
