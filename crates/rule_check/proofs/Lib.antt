@@ -4,3 +4,4 @@ pub mod FirstOffender
 pub mod Named
 pub mod CleanRules
 pub mod Places
+pub mod Gathered

@@ -1,14 +1,15 @@
 -- What a search for a name finds among names in order.
-use Rattle.std.proofs.Common.{ℕ, ◌≡◌, ◌+◌, ◌<◌, ◌≤◌, refl, false, List, length, get_or, ap, sym, ◌∙◌, arith}
+use Rattle.std.proofs.Common.{ℕ, ◌≡◌, ◌+◌, ◌<◌, ◌≤◌, refl, Bool, false, true, Option, Some, None, is_some, List, length, get_or, ap, sym, ◌∙◌, arith}
 use Rattle.std.specs.List.{AllWithin}
 use Rattle.std.specs.List.Sorted.{IsNonDecreasingBy}
 use Rattle.std.specs.Ordering.{ordering_index}
+use Rattle.std.specs.Cmp.{tied_itself}
 use Rattle.std.specs.declared.cmp.Ordering.{Ordering}
 use Rattle.std.specs.declared.cmp.Ordering.TheVariants.{Less, Equal, Greater}
 use Rattle.std.proofs.lemmas.List.{get_or_default}
 use Rattle.std.proofs.lemmas.List.Sorted.{searchable_from_sorted}
 use Rattle.ordered_lists.specs.Canon.{has, Rising}
-use Rattle.ordered_lists.proofs.Search.{sorted_from_rising, parted}
+use Rattle.ordered_lists.proofs.Search.{sorted_from_rising, parted, found}
 use Rattle.ev_term.specs.declared.atoms.NameArity.{NameArity}
 use Rattle.rule_check.specs.Names.{name_cmp, exact_names, IsPlace}
 
@@ -71,3 +72,7 @@ module _ (names : List NameArity) (q : NameArity) (rising : Rising name_cmp name
 
   pub place_found : (middle : ℕ) (n : NameArity) → middle < length names → n ≡ get_or names middle n → name_cmp n q ≡ Equal → (d : NameArity) → get_or names middle d ≡ q
   place_found middle n h is equal d = get_or_default names middle d n h ∙ sym is ∙ exact_names.same n q equal
+
+  pub among : (o : Option ℕ) (b : Bool) → IsPlace o q names → b ≡ is_some o → b ≡ has name_cmp q names
+  among None b p e = e ∙ sym p
+  among (Some k) b p e = e ∙ sym (found exact_names q names k p.0 (λ d. ap (λ n. name_cmp n q) (p.1 d) ∙ tied_itself exact_names.total q))

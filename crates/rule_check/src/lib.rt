@@ -3,6 +3,7 @@
 #![tactic(auto)]
 
 mod faults;
+mod gathering;
 mod names;
 mod offenders;
 mod outside;

@@ -4,7 +4,7 @@ ghost use Rattle.std.specs.Cmp.{partial_equiv_from_equiv, partial_order_from_agr
 ghost use Rattle.std.specs.Ordering.{eq_by_cmp, as_partial_cmp};
 ghost use Rattle.std.proofs.Common.{refl};
 ghost use Rattle.std.proofs.lemmas.Cmp.{eq_by_cmp_equiv};
-ghost use Rattle.ordered_lists.specs.Canon.{canon, Rising};
+ghost use Rattle.ordered_lists.specs.Canon.{canon, has, Rising};
 ghost use Rattle.rule_check.specs.Names.{name_cmp, exact_names, IsPlace};
 
 use ev_term::{Name, NameArity};
@@ -28,7 +28,7 @@ impl Model for Ordered {
 }
 
 impl Ordered {
-    pub(crate) fn new(alloc: Global, name: &Name, arity: u8) -> Result<Ordered, AllocError>
+    pub(crate) fn new(name: &Name, arity: u8) -> Result<Ordered, AllocError>
         ensures { IfOk result (λ o. o ≡ record { name = name.now; arity = arity }) }
     {
         Ok(Ordered {
@@ -37,6 +37,14 @@ impl Ordered {
                 arity,
             },
         })
+    }
+
+    // Whether the name is among names in order.
+    pub(crate) fn is_among(&self, names: &[NameArity]) -> bool
+        requires { Rising name_cmp names.now }
+        ensures { result ≡ has name_cmp self.now names.now }
+    {
+        place_of(names, &self.of.name, usize::from(self.of.arity)).is_some()
     }
 }
 
