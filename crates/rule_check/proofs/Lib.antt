@@ -5,3 +5,4 @@ pub mod Named
 pub mod CleanRules
 pub mod Places
 pub mod Gathered
+pub mod Seeing

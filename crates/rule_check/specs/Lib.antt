@@ -2,4 +2,5 @@ pub mod Offenders
 pub mod Allowed
 pub mod Sound
 pub mod Names
+pub mod Graphs
 pub mod Faults

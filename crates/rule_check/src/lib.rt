@@ -4,6 +4,7 @@
 
 mod faults;
 mod gathering;
+mod graph;
 mod names;
 mod offenders;
 mod outside;
