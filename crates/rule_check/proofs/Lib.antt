@@ -6,3 +6,4 @@ pub mod CleanRules
 pub mod Places
 pub mod Gathered
 pub mod Seeing
+pub mod Visiting

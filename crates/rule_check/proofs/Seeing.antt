@@ -1,10 +1,10 @@
 -- A walk over a graph that marks what it has seen.
-use Rattle.std.proofs.Common.{◌≡◌, ℕ, zero, suc, ◌+◌, ◌<◌, ◌≤◌, Bool, true, false, cond, ◌||◌, ◌==◌, List, [], ◌∷◌, ◌++◌, length, get_or, set, take, refl, ap, sym, subst, ◌∙◌, ◌⊎◌, inl, inr, arith}
+use Rattle.std.proofs.Common.{◌≡◌, ℕ, zero, suc, ◌+◌, ◌<◌, ◌≤◌, Bool, true, false, cond, ◌||◌, ◌==◌, List, [], ◌∷◌, ◌++◌, length, get_or, set, take, drop, replicate, refl, ap, sym, subst, ◌∙◌, ◌⊎◌, inl, inr, arith}
 use Rattle.std.proofs.lemmas.Bool.{true≢false, cases_eq}
 use Rattle.std.proofs.lemmas.Bool.Decides.{Decides-eqb}
-use Rattle.std.proofs.lemmas.List.{get_or-set_same, get_or-set_other, take_more, get_or_default}
+use Rattle.std.proofs.lemmas.List.{get_or-set_same, get_or-set_other, take_more, get_or_default, length-replicate, take_all, drop_all, append-nil}
 use Rattle.rule_ast.specs.Vars.{is_in, is_in-none, is_in-cons, is_in-append}
-use Rattle.rule_check.specs.Graphs.{Reaches, stop, step, leads, targets, seen_at, unseen, Seen}
+use Rattle.rule_check.specs.Graphs.{Reaches, stop, step, leads, targets, seen_at, unseen, Seen, SeenFrom}
 
 or_cases : (a b : Bool) {P : Type 0} → (a ≡ true → P) → (b ≡ true → P) → (a || b) ≡ true → P
 or_cases true b f g e = f refl
@@ -122,3 +122,49 @@ target_leads graph node items i is h = ap (is_in (get_or items i 0)) (sym is) �
 
 pub take_target : (items : List ℕ) (i : ℕ) → i < length items → take (i + 1) items ≡ take i items ++ get_or items i 0 ∷ []
 take_target items i h = take_more items i 0 h
+
+-- ---- from several nodes
+
+none_at : (n i : ℕ) → seen_at (replicate n false) i ≡ false
+none_at zero i = refl
+none_at (suc n) zero = refl
+none_at (suc n) (suc i) = none_at n i
+
+pub seen_none : (graph : List (List ℕ)) (n : ℕ) → n ≡ length graph → SeenFrom graph [] (replicate n false)
+seen_none graph n is = record {
+    sized = length-replicate n false ∙ is;
+    started = λ i e. absurd (true≢false (sym e ∙ is_in-none i));
+    closed = λ i j s l. absurd (true≢false (sym s ∙ none_at n i));
+    sound = λ j s. absurd (true≢false (sym s ∙ none_at n j))
+  }
+
+pub seen_one : (graph : List (List ℕ)) (starts : List ℕ) (old new : List Bool) (start : ℕ) → SeenFrom graph starts old → length new ≡ length old → Seen graph start old new → SeenFrom graph (starts ++ start ∷ []) new
+seen_one graph starts old new start s same n = record {
+    sized = same ∙ s.sized;
+    started = λ i e. in_more i start starts (λ h. n.keeps i (s.started i h)) (λ h. ap (seen_at new) h ∙ n.here) e;
+    closed = λ i j f l. at i j (seen_at old i) refl f l;
+    sound = λ j f. from j (seen_at old j) refl f
+  }
+  where
+    at : (i j : ℕ) (b : Bool) → seen_at old i ≡ b → seen_at new i ≡ true → leads graph i j ≡ true → seen_at new j ≡ true
+    at i j true is f l = n.keeps j (s.closed i j is l)
+    at i j false is f l = n.closed i j is f l
+
+    last : is_in start (starts ++ start ∷ []) ≡ true
+    last = is_in-append start starts (start ∷ []) ∙ or_right (is_in start starts) (is_in start (start ∷ [])) (is_in-cons start start [] ∙ or_left (start == start) (is_in start []) ((Decides-eqb start start).1 refl))
+
+    from : (j : ℕ) (b : Bool) → seen_at old j ≡ b → seen_at new j ≡ true → (i : ℕ) × (is_in i (starts ++ start ∷ []) ≡ true) × Reaches (leads graph) i j
+    from j true is f = let (i, e, r) = s.sound j is in (i, is_in-append i starts (start ∷ []) ∙ or_left (is_in i starts) (is_in i (start ∷ [])) e, r)
+    from j false is f = (start, last, n.sound j is f)
+
+pub all_seen : (graph : List (List ℕ)) (starts : List ℕ) (seen : List Bool) → SeenFrom graph starts seen → (i j : ℕ) → seen_at seen i ≡ true → Reaches (leads graph) i j → seen_at seen j ≡ true
+all_seen graph starts seen s i j e (stop i') = e
+all_seen graph starts seen s i j e (step i' k j' l r) = all_seen graph starts seen s k j (s.closed i k e l) r
+
+pub reached : (graph : List (List ℕ)) (starts : List ℕ) (seen : List Bool) (node : ℕ) → SeenFrom graph starts seen → seen_at seen node ≡ false → (i : ℕ) → is_in i starts ≡ true → Reaches (leads graph) i node → ⊥
+reached graph starts seen node s e i h r = true≢false (sym (all_seen graph starts seen s i node (s.started i h) r) ∙ e)
+
+-- a slice of a list that is written back
+pub written_back : {A : Type 0} (len : ℕ) (new items : List A) → length new ≡ length items → len ≡ length items → take len (new ++ drop (length new) items) ≡ new
+written_back len new items e f =
+    ap (λ l. take len (new ++ l)) (drop_all (length new) items (omega (arith, e))) ∙ ap (take len) (append-nil new) ∙ take_all len new (omega (arith, e, f))

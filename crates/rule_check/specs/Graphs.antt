@@ -97,3 +97,37 @@ OpenLead graph marks node = (i : ℕ) → is_open (mark_at marks i) ≡ true →
 
 abbrev pub HasCycle : List (List ℕ) → Type 0
 HasCycle graph = (i : ℕ) × Returns (leads graph) i i
+
+-- what a visit answers: the node's rank, or nothing where a node returns to itself
+pub record Visited (graph : List (List ℕ)) (node rank : ℕ) (old new : List Mark) : Type 0 where
+  pub rank_is : mark_at new node ≡ Ranked rank
+  pub ranked : AreRanked graph new
+  pub follows : Follows old new
+
+abbrev pub IsVisit : Option ℕ → List (List ℕ) → ℕ → List Mark → List Mark → Type 0
+IsVisit None graph node old new = HasCycle graph
+IsVisit (Some rank) graph node old new = Visited graph node rank old new
+
+-- a rank for each node: one more than the greatest of its targets' ranks
+pub record IsRankList (graph : List (List ℕ)) (ranks : List ℕ) : Type 0 where
+  pub sized : length ranks ≡ length graph
+  pub rank : (i : ℕ) → i < length graph → get_or ranks i 0 ≡ greatest (map (λ j. get_or ranks j 0) (targets graph i)) + 1
+
+-- ranks of all nodes, or nothing where a node returns to itself
+abbrev pub AreRanksOf : Option (List ℕ) → List (List ℕ) → Type 0
+AreRanksOf None graph = HasCycle graph
+AreRanksOf (Some ranks) graph = IsRankList graph ranks
+
+-- the nodes below this one have ranks, and none is open
+pub record RankedBelow (graph : List (List ℕ)) (marks : List Mark) (below : ℕ) : Type 0 where
+  pub sized : length marks ≡ length graph
+  pub ranked : AreRanked graph marks
+  pub closed : (i : ℕ) → is_open (mark_at marks i) ≡ false
+  pub done : (i : ℕ) → i < below → is_ranked (mark_at marks i) ≡ true
+
+-- what these nodes reach is seen
+pub record SeenFrom (graph : List (List ℕ)) (starts : List ℕ) (seen : List Bool) : Type 0 where
+  pub sized : length seen ≡ length graph
+  pub started : (i : ℕ) → is_in i starts ≡ true → seen_at seen i ≡ true
+  pub closed : (i j : ℕ) → seen_at seen i ≡ true → leads graph i j ≡ true → seen_at seen j ≡ true
+  pub sound : (j : ℕ) → seen_at seen j ≡ true → (i : ℕ) × (is_in i starts ≡ true) × Reaches (leads graph) i j
