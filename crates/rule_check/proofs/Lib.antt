@@ -7,3 +7,4 @@ pub mod Places
 pub mod Gathered
 pub mod Seeing
 pub mod Visiting
+pub mod Placing

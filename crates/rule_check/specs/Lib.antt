@@ -3,4 +3,5 @@ pub mod Allowed
 pub mod Sound
 pub mod Names
 pub mod Graphs
+pub mod Cycles
 pub mod Faults

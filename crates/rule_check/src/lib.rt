@@ -2,6 +2,7 @@
 //! on itself.
 #![tactic(auto)]
 
+mod bodies;
 mod faults;
 mod gathering;
 mod graph;
