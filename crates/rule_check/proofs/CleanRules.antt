@@ -114,3 +114,9 @@ clean_show xs i x names number h is e old = record {
     counted = old.counted ∙ ap length (sym (no_rule xs i x h is names e));
     clean = ap (variable_faults 1) (no_rule xs i x h is names e) ∙ old.clean
   }
+
+-- all rules, round one of them
+pub rule_among : (xs : List Statement) (i : ℕ) (x : Statement) (r : Rule) → i < length xs → x ≡ get_or xs i x → x ≡ made.Rule r → rules_in xs ≡ rules_in (take i xs) ++ plain_rule r ∷ rules_in (drop (i + 1) xs)
+rule_among xs i x r h is e =
+    ap rules_in (sym (take-append-drop (i + 1) xs)) ∙ rules_in-append (take (i + 1) xs) (drop (i + 1) xs) ∙ ap (λ l. l ++ rules_in (drop (i + 1) xs)) (a_rule xs i x h is r e)
+    ∙ append_assoc (rules_in (take i xs)) (plain_rule r ∷ []) (rules_in (drop (i + 1) xs))

@@ -1,18 +1,20 @@
 -- Cycles of names and of nodes, and ranks of both.
-use Rattle.std.proofs.Common.{◌≡◌, ℕ, zero, suc, ◌+◌, ◌<◌, ◌≤◌, max, Bool, true, false, cond, ◌||◌, Option, Some, None, List, [], ◌∷◌, ◌++◌, length, get_or, map, refl, ap, sym, subst, ◌∙◌, ◌⊎◌, inl, inr, arith}
+use Rattle.std.proofs.Common.{length-append, ◌≡◌, ℕ, zero, suc, ◌+◌, ◌<◌, ◌≤◌, max, Bool, true, false, cond, ◌||◌, Option, Some, None, List, [], ◌∷◌, ◌++◌, length, get_or, map, refl, ap, sym, subst, ◌∙◌, ◌⊎◌, inl, inr, arith}
 use Rattle.std.specs.List.{cons_option}
 use Rattle.std.specs.Option.{option_map}
+use Rattle.std.specs.Bool.{Decides}
 use Rattle.std.specs.Ordering.{is_eq}
 use Rattle.std.proofs.lemmas.Bool.{true≢false}
 use Rattle.std.proofs.lemmas.List.{length-map}
 use Rattle.ordered_lists.specs.Canon.{has, Rising, has-append}
 use Rattle.ev_term.specs.declared.atoms.NameArity.{NameArity}
 use Rattle.rule_ast.specs.Trees.{PlainRule}
+use Rattle.rule_ast.specs.Vars.{is_in}
 use Rattle.rule_check.specs.Names.{name_cmp, exact_names, head_name, head_names, body_names}
 use Rattle.rule_check.specs.Graphs.{Reaches, stop, step, HasCycle, greatest, targets, leads, IsRankList}
 use Rattle.rule_check.specs.Cycles.{below, stands_on, IsOnCycle, AreAcyclic, IsFirstCycle, IsRanking, place, places, graph_of, rank_by}
 use Rattle.rule_check.proofs.Placing.{itself, same_name, no_place}
-use Rattle.rule_check.proofs.Dependencies.{place_below, place_name, place_some, targets_of, lead_from, lead_to}
+use Rattle.rule_check.proofs.NameGraph.{place_below, place_name, place_some, in_places, places_in, targets_of, lead_from, lead_to}
 
 or_cases : (a b : Bool) {P : Type 0} → (a ≡ true → P) → (b ≡ true → P) → (a || b) ≡ true → P
 or_cases true b f g e = f refl
@@ -174,3 +176,35 @@ acyclic_more rules (x ∷ xs) r a h = (a.0, acyclic_more rules xs r a.1 h)
 first_at : (rules : List PlainRule) (number : ℕ) (xs : List PlainRule) (r : PlainRule) (ys : List PlainRule) → AreAcyclic rules xs → IsOnCycle rules r → IsFirstCycle rules number (xs ++ r ∷ ys) (number + length xs)
 first_at rules number [] r ys a h = inl (omega arith, h)
 first_at rules number (x ∷ xs) r ys a h = inr (a.0, subst (IsFirstCycle rules (number + 1) (xs ++ r ∷ ys)) (omega arith) (first_at rules (number + 1) xs r ys a.1 h))
+
+-- none of the rules so far is on a cycle
+pub record NoCycleYet (rules before : List PlainRule) (number : ℕ) : Type 0 where
+  pub counted : number ≡ length before
+  pub off : AreAcyclic rules before
+
+pub one_off : (rules before : List PlainRule) (number : ℕ) (r : PlainRule) → NoCycleYet rules before number → (IsOnCycle rules r → ⊥) → NoCycleYet rules (before ++ r ∷ []) (number + 1)
+one_off rules before number r n h = record {
+    counted = ap (λ k. k + 1) n.counted ∙ sym (length-append before (r ∷ []));
+    off = acyclic_more rules before r n.off h
+  }
+
+pub cycle_at : (rules before rest : List PlainRule) (number : ℕ) (r : PlainRule) → rules ≡ before ++ r ∷ rest → NoCycleYet rules before number → IsOnCycle rules r → IsFirstCycle rules 1 rules (number + 1)
+cycle_at rules before rest number r is n h =
+    subst (λ l. IsFirstCycle rules 1 l (number + 1)) (sym is) (subst (IsFirstCycle rules 1 (before ++ r ∷ rest)) (let c = n.counted in omega (arith, c)) (first_at rules 1 before r rest n.off h))
+
+-- whether nodes of a body reach the head's is whether the rule is on a cycle
+module _ (heads : List NameArity) (rules : List PlainRule) (are : (n : NameArity) → has name_cmp n heads ≡ has name_cmp n (head_names rules)) (r : PlainRule) (node : ℕ) (at : place heads (head_name r) ≡ Some node) where
+  pub cycle_found : (i : ℕ) → is_in i (places heads (body_names r.body)) ≡ true → Reaches (leads (graph_of heads rules)) i node → IsOnCycle rules r
+  cycle_found i e t =
+      let (m, h, p) = in_places heads (body_names r.body) i e in
+      let d = head_name r in
+      (m, h, subst (λ y. Reaches (stands_on rules) y (head_name r)) (place_name heads m i p d) (subst (λ y. Reaches (stands_on rules) (get_or heads i d) y) (place_name heads (head_name r) node at d) (name_reaches heads rules d i node t)))
+
+  pub cycle_missed : ((i : ℕ) → is_in i (places heads (body_names r.body)) ≡ true → Reaches (leads (graph_of heads rules)) i node → ⊥) → IsOnCycle rules r → ⊥
+  cycle_missed none (m, h, t) =
+      let (i, p, s) = node_reaches heads rules are node m (head_name r) at t in
+      none i (places_in heads (body_names r.body) m i h p) s
+
+pub decided : (b : Bool) {P : Type 0} → (b ≡ true → P) → (b ≡ false → P → ⊥) → Decides b P
+decided true f g = (f, λ p. refl)
+decided false f g = (f, λ p. absurd (g refl p))

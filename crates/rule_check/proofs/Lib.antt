@@ -8,5 +8,5 @@ pub mod Gathered
 pub mod Seeing
 pub mod Visiting
 pub mod Placing
-pub mod Dependencies
+pub mod NameGraph
 pub mod Cycling

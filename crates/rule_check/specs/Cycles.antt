@@ -53,3 +53,8 @@ abbrev pub rank_by : List NameArity → List ℕ → NameArity → ℕ
 rank_by [] ranks n = 0
 rank_by (h ∷ heads) [] n = 0
 rank_by (h ∷ heads) (r ∷ ranks) n = cond (is_eq (name_cmp n h)) r (rank_by heads ranks n)
+
+-- the number of the first rule on a cycle, or nothing where none is
+abbrev pub IsCycleAnswer : Option ℕ → List PlainRule → Type 0
+IsCycleAnswer None rules = AreAcyclic rules rules
+IsCycleAnswer (Some k) rules = IsFirstCycle rules 1 rules k

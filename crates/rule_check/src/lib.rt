@@ -3,6 +3,7 @@
 #![tactic(auto)]
 
 mod bodies;
+mod dependencies;
 mod faults;
 mod gathering;
 mod graph;

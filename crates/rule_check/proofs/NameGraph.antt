@@ -1,5 +1,5 @@
 -- The graph of the names that head rules.
-use Rattle.std.proofs.Common.{◌≡◌, ℕ, zero, suc, ◌+◌, ◌<◌, ◌≤◌, Bool, true, false, cond, ◌||◌, ◌==◌, Option, Some, None, List, [], ◌∷◌, ◌++◌, length, get_or, set, map, refl, ap, sym, subst, ◌∙◌, ◌⊎◌, inl, inr, arith, append_assoc, append-nil}
+use Rattle.std.proofs.Common.{◌≡◌, ℕ, zero, suc, ◌+◌, ◌<◌, ◌≤◌, Bool, true, false, cond, ◌||◌, ◌==◌, Option, Some, None, List, [], ◌∷◌, ◌++◌, length, get_or, set, replicate, map, refl, ap, sym, subst, ◌∙◌, ◌⊎◌, inl, inr, arith, append_assoc, append-nil}
 use Rattle.std.specs.Option.{option_map}
 use Rattle.std.specs.List.{flat_map, filter_map, cons_option}
 use Rattle.std.specs.Ordering.{is_eq}
@@ -163,3 +163,30 @@ module _ (all : List NameArity) (rules : List PlainRule) (r : PlainRule) where
 pub graph_more : (heads : List NameArity) (rules : List PlainRule) (r : PlainRule) (i : ℕ) → Rising name_cmp heads → IsPlace (Some i) (head_name r) heads
     → graph_of heads (rules ++ r ∷ []) ≡ set (graph_of heads rules) i (targets (graph_of heads rules) i ++ places heads (body_names r.body))
 graph_more heads rules r i a p = rows_more heads rules r heads i a p.0 (p.1 (head_name r))
+
+-- with no rule, no name stands on another
+pub empty_rows : (heads : List NameArity) (n : ℕ) → n ≡ length heads → replicate n [] ≡ graph_of heads []
+empty_rows heads n is = ap (λ k. replicate k []) is ∙ each heads
+  where
+    each : (hs : List NameArity) → replicate (length hs) [] ≡ map (λ h. places heads (below [] h)) hs
+    each [] = refl
+    each (h ∷ hs) = ap (λ l. [] ∷ l) (each hs)
+
+pub graph_length : (heads : List NameArity) (rules : List PlainRule) → length (graph_of heads rules) ≡ length heads
+graph_length heads rules = length-map heads (λ h. places heads (below rules h))
+
+-- the nodes of a body are nodes of the graph
+pub places_inside : (heads names : List NameArity) (n : ℕ) → n ≡ length heads → (i : ℕ) → is_in i (places heads names) ≡ true → i < n
+places_inside heads names n is i e = let (m, h, p) = in_places heads names i e in let inside = place_below heads m i p in omega (arith, inside, is)
+
+pub graph_step : (heads : List NameArity) (rules : List PlainRule) (r : PlainRule) (old new : List (List ℕ)) → Rising name_cmp heads → has name_cmp (head_name r) heads ≡ true → old ≡ graph_of heads rules
+    → ((i : ℕ) → place heads (head_name r) ≡ Some i → new ≡ set old i (targets old i ++ places heads (body_names r.body))) → new ≡ graph_of heads (rules ++ r ∷ [])
+graph_step heads rules r old new a e is step =
+    let (i, p) = place_some heads (head_name r) e in
+    step i p ∙ ap (λ g. set g i (targets g i ++ places heads (body_names r.body))) is
+    ∙ sym (graph_more heads rules r i a (place_below heads (head_name r) i p, place_name heads (head_name r) i p))
+
+-- a rule's head name is one of those of a list that holds the rule
+pub head_known : (xs ys : List PlainRule) (r : PlainRule) → has name_cmp (head_name r) (head_names (xs ++ r ∷ ys)) ≡ true
+head_known [] ys r = or_left (is_eq (name_cmp (head_name r) (head_name r))) (has name_cmp (head_name r) (head_names ys)) (itself (head_name r))
+head_known (x ∷ xs) ys r = or_right (is_eq (name_cmp (head_name r) (head_name x))) (has name_cmp (head_name r) (head_names (xs ++ r ∷ ys))) (head_known xs ys r)
