@@ -88,7 +88,7 @@ module _ (heads : List NameArity) (rules : List PlainRule) where
 
 -- ---- ranks
 
-abbrev by_place : Option ℕ → List ℕ → ℕ
+abbrev pub by_place : Option ℕ → List ℕ → ℕ
 by_place None ranks = 0
 by_place (Some i) ranks = get_or ranks i 0
 
@@ -100,7 +100,7 @@ one_up : (o : Option ℕ) (r : ℕ) (ranks : List ℕ) → by_place (option_map 
 one_up None r ranks = refl
 one_up (Some i) r ranks = refl
 
-rank_is : (heads : List NameArity) (ranks : List ℕ) (n : NameArity) → rank_by heads ranks n ≡ by_place (place heads n) ranks
+pub rank_is : (heads : List NameArity) (ranks : List ℕ) (n : NameArity) → rank_by heads ranks n ≡ by_place (place heads n) ranks
 rank_is [] ranks n = refl
 rank_is (h ∷ heads) [] n = nowhere (cond (is_eq (name_cmp n h)) (Some 0) (option_map suc (place heads n)))
 rank_is (h ∷ heads) (r ∷ ranks) n = at (is_eq (name_cmp n h)) (rank_is heads ranks n ∙ sym (one_up (place heads n) r ranks))

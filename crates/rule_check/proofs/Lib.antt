@@ -10,3 +10,4 @@ pub mod Visiting
 pub mod Placing
 pub mod NameGraph
 pub mod Cycling
+pub mod Ranking

@@ -273,7 +273,13 @@ pub all_ranked : (graph : List (List ℕ)) (marks : List Mark) (ranks : List ℕ
 all_ranked graph marks ranks r is = record {
     sized = ap length is ∙ length-map marks rank_of ∙ r.sized;
     rank = λ i h.
-        at i ∙ r.ranked.rank i (r.done i h) ∙ ap (λ ns. greatest ns + 1) (map_agree (rank_at marks) (λ j. get_or ranks j 0) (targets graph i) (λ j l. sym (at j)))
+        at i ∙ r.ranked.rank i (r.done i h) ∙ ap (λ ns. greatest ns + 1) (map_agree (rank_at marks) (λ j. get_or ranks j 0) (targets graph i) (λ j l. sym (at j)));
+    few = λ i h.
+        let is = at i in
+        let few = r.ranked.few i (r.done i h) in
+        let all = tally_few is_ranked marks in
+        let sized = r.sized in
+        omega (arith, is, few, all, sized)
   }
   where
     at : (i : ℕ) → get_or ranks i 0 ≡ rank_at marks i

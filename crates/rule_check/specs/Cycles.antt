@@ -1,5 +1,5 @@
 -- Which names stand on which, the rules on a cycle, and ranks of names.
-use Rattle.std.specs.Prelude.{ℕ, ◌≡◌, ◌+◌, ◌⊎◌, Bool, true, cond, get_or, Option, Some, None, option_map, suc, List, [], ◌∷◌, map}
+use Rattle.std.specs.Prelude.{ℕ, ◌≡◌, ◌+◌, ◌⊎◌, Bool, true, cond, get_or, Option, Some, None, option_map, zero, suc, length, List, [], ◌∷◌, map}
 use Rattle.std.specs.List.{flat_map, filter_map}
 use Rattle.std.specs.Ordering.{is_eq}
 use Rattle.ordered_lists.specs.Canon.{canon, has}
@@ -32,6 +32,15 @@ IsFirstCycle rules number (r ∷ rs) k = ((k ≡ number) × IsOnCycle rules r) �
 -- a name that heads no rule has rank 0, and another one more than the greatest rank in the bodies of its rules
 abbrev pub IsRanking : List PlainRule → (NameArity → ℕ) → Type 0
 IsRanking rules rank = (n : NameArity) → rank n ≡ cond (has name_cmp n (head_names rules)) (greatest (map rank (below rules n)) + 1) 0
+
+-- ranks that are looked for at most k names deep
+abbrev pub rank_within : ℕ → List PlainRule → NameArity → ℕ
+rank_within zero rules n = 0
+rank_within (suc k) rules n = cond (has name_cmp n (head_names rules)) (greatest (map (rank_within k rules) (below rules n)) + 1) 0
+
+-- the rank of a name, where no rule is on a cycle
+unfoldable pub rank_of : List PlainRule → NameArity → ℕ
+rank_of rules n = rank_within (length rules) rules n
 
 -- ---- names by number
 

@@ -108,10 +108,11 @@ abbrev pub IsVisit : Option ℕ → List (List ℕ) → ℕ → List Mark → Li
 IsVisit None graph node old new = HasCycle graph
 IsVisit (Some rank) graph node old new = Visited graph node rank old new
 
--- a rank for each node: one more than the greatest of its targets' ranks
+-- a rank for each node: one more than the greatest of its targets' ranks, and no more than there are nodes
 pub record IsRankList (graph : List (List ℕ)) (ranks : List ℕ) : Type 0 where
   pub sized : length ranks ≡ length graph
   pub rank : (i : ℕ) → i < length graph → get_or ranks i 0 ≡ greatest (map (λ j. get_or ranks j 0) (targets graph i)) + 1
+  pub few : (i : ℕ) → i < length graph → get_or ranks i 0 ≤ length graph
 
 -- ranks of all nodes, or nothing where a node returns to itself
 abbrev pub AreRanksOf : Option (List ℕ) → List (List ℕ) → Type 0

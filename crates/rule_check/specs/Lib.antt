@@ -5,3 +5,4 @@ pub mod Names
 pub mod Graphs
 pub mod Cycles
 pub mod Faults
+pub mod Verdict
