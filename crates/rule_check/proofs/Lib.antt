@@ -11,3 +11,4 @@ pub mod Placing
 pub mod NameGraph
 pub mod Cycling
 pub mod Ranking
+pub mod Verdicts

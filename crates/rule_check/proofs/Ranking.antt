@@ -4,14 +4,14 @@ use Rattle.std.specs.Ordering.{is_eq}
 use Rattle.std.specs.declared.cmp.Ordering.{Ordering}
 use Rattle.std.specs.declared.cmp.Ordering.TheVariants.{Less, Equal, Greater}
 use Rattle.std.proofs.lemmas.Bool.{true≢false}
-use Rattle.std.proofs.lemmas.List.{length-map}
-use Rattle.ordered_lists.specs.Canon.{place as put, placed, canon, has, has-canon}
+use Rattle.std.proofs.lemmas.List.{length-map, get_or_default}
+use Rattle.ordered_lists.specs.Canon.{place as put, placed, canon, has, Rising, Rising-canon, has-canon}
 use Rattle.ev_term.specs.declared.atoms.NameArity.{NameArity}
 use Rattle.rule_ast.specs.Trees.{PlainRule}
-use Rattle.rule_check.specs.Names.{name_cmp, exact_names, head_name, head_names}
+use Rattle.rule_check.specs.Names.{name_cmp, exact_names, head_name, head_names, IsPlace}
 use Rattle.rule_check.specs.Graphs.{greatest, IsRankList}
 use Rattle.rule_check.specs.Cycles.{below, IsRanking, rank_within, rank_of, place, graph_of, rank_by}
-use Rattle.rule_check.proofs.Placing.{itself, same_name}
+use Rattle.rule_check.proofs.Placing.{itself, same_name, place_is, no_place}
 use Rattle.rule_check.proofs.NameGraph.{place_below, graph_length}
 use Rattle.rule_check.proofs.Cycling.{by_place, rank_is}
 
@@ -84,3 +84,15 @@ few_ranks heads rules ranks is r n = at (place heads n) refl (rank_is heads rank
         let few = r.few i here in
         let all = few_heads heads rules is in
         omega (arith, e, few, sized, all)
+
+pub rising_heads : (heads : List NameArity) (names : List NameArity) → heads ≡ canon name_cmp names → Rising name_cmp heads
+rising_heads heads names is = subst (Rising name_cmp) (sym is) (Rising-canon exact_names names)
+
+-- the rank that is read at a name's place
+pub rank_read : (heads : List NameArity) (ranks : List ℕ) (n : NameArity) (i x : ℕ) → Rising name_cmp heads → length ranks ≡ length heads → IsPlace (Some i) n heads → x ≡ get_or ranks i x → x ≡ rank_by heads ranks n
+rank_read heads ranks n i x rising sized p is =
+    is ∙ get_or_default ranks i x 0 (let inside = p.0 in omega (arith, inside, sized))
+    ∙ ap (λ o. by_place o ranks) (place_is heads n (Some i) rising p) ∙ sym (rank_is heads ranks n)
+
+pub rank_nowhere : (heads : List NameArity) (ranks : List ℕ) (n : NameArity) → IsPlace None n heads → 0 ≡ rank_by heads ranks n
+rank_nowhere heads ranks n p = ap (λ o. by_place o ranks) (sym (no_place heads n p)) ∙ sym (rank_is heads ranks n)

@@ -3,7 +3,7 @@ use Rattle.std.specs.Prelude.{ℕ, ◌≡◌, ◌⊎◌, Some, List, [], ◌++�
 use Rattle.ordered_lists.specs.Canon.{canon}
 use Rattle.ev_term.specs.declared.atoms.NameArity.{NameArity}
 use Rattle.rule_ast.specs.Shaped.{IsShaped}
-use Rattle.rule_ast.specs.Trees.{PlainStatement}
+use Rattle.rule_ast.specs.Trees.{PlainRule, PlainStatement}
 use Rattle.rule_check.specs.Offenders.{first}
 use Rattle.rule_check.specs.Sound.{rules_of, AreSafe}
 use Rattle.rule_check.specs.Names.{name_cmp, head_names, shown_names, outputs, unknown_shows, AreShownKnown}
@@ -18,10 +18,13 @@ pub record IsSound (statements : List PlainStatement) : Type 0 where
   pub shown_known : AreShownKnown statements
   pub acyclic : AreAcyclic (rules_of statements) (rules_of statements)
 
+-- the faults of shown names
+abbrev pub show_faults : List PlainStatement → List CheckFault
+show_faults statements = map (λ k. ShowUnknown k) (unknown_shows 1 (head_names (rules_of statements)) (shown_names statements))
+
 -- the faults that are tested before cycles, in the order of testing
 abbrev pub early_faults : List PlainStatement → List CheckFault
-early_faults statements =
-    variable_faults 1 (rules_of statements) ++ map (λ k. ShowUnknown k) (unknown_shows 1 (head_names (rules_of statements)) (shown_names statements))
+early_faults statements = variable_faults 1 (rules_of statements) ++ show_faults statements
 
 -- the fault is the first, or memory ran out
 abbrev pub IsRefusal : CheckFault → List PlainStatement → Type 0
@@ -30,12 +33,17 @@ IsRefusal fault statements =
     ⊎ ((first (early_faults statements) ≡ Some fault)
     ⊎ ((early_faults statements ≡ []) × ((k : ℕ) × (fault ≡ Cycle k) × IsFirstCycle (rules_of statements) 1 (rules_of statements) k)))
 
+-- these are the ranks of the names that head rules, and no rule is on a cycle
+pub record AreNameRanks (rules : List PlainRule) (heads : List NameArity) (ranks : List ℕ) : Type 0 where
+  pub are : (n : NameArity) → rank_by heads ranks n ≡ rank_of rules n
+  pub sized : length ranks ≡ length heads
+  pub ranking : IsRanking rules (rank_of rules)
+  pub acyclic : AreAcyclic rules rules
+
 -- what is kept of sound rules: the names that are given out, and those that head rules with their ranks
 pub record IsChecked (statements : List PlainStatement) (shown heads : List NameArity) (ranks : List ℕ) : Type 0 where
   pub shaped : IsShaped statements
   pub sound : IsSound statements
   pub shown_is : shown ≡ outputs statements
   pub heads_are : heads ≡ canon name_cmp (head_names (rules_of statements))
-  pub ranks_are : (n : NameArity) → rank_by heads ranks n ≡ rank_of (rules_of statements) n
-  pub sized : length ranks ≡ length heads
-  pub ranking : IsRanking (rules_of statements) (rank_of (rules_of statements))
+  pub ranks_are : AreNameRanks (rules_of statements) heads ranks

@@ -3,6 +3,8 @@
 #![tactic(auto)]
 
 mod bodies;
+mod checked;
+mod checking;
 mod dependencies;
 mod faults;
 mod gathering;
@@ -12,4 +14,6 @@ mod offenders;
 mod outside;
 mod variables;
 
+pub use checked::Checked;
+pub use checking::check;
 pub use faults::CheckFault;
