@@ -1,5 +1,5 @@
 -- The faults of the variables of one statement more.
-use Rattle.std.proofs.Common.{◌≡◌, ℕ, zero, suc, ◌+◌, ◌<◌, ◌≤◌, Bool, true, false, Option, Some, None, List, [], ◌∷◌, ◌++◌, length, get_or, take, drop, map, refl, ap, sym, ◌∙◌, arith, append_assoc, append-nil, length-append, length-take, leb-true, ◌⊎◌, inl, inr}
+use Rattle.std.proofs.Common.{◌≡◌, ℕ, zero, suc, ◌+◌, ◌<◌, ◌≤◌, true, Some, List, [], ◌∷◌, ◌++◌, length, get_or, take, drop, map, refl, ap, sym, ◌∙◌, arith, append_assoc, append-nil, length-append, length-take, leb-true, ◌⊎◌, inl, inr}
 use Rattle.std.specs.List.{list_all}
 use Rattle.std.proofs.lemmas.Bool.{and_parts}
 use Rattle.std.proofs.lemmas.List.{take_more, take-append-drop, map-append, length-map}
@@ -63,7 +63,7 @@ module _ (xs : List Statement) (i : ℕ) (x : Statement) (h : i < length xs) (is
       ap (λ l. first (variable_faults 1 l)) (ap rules_in (sym (take-append-drop (i + 1) xs)) ∙ rules_in-append (take (i + 1) xs) (drop (i + 1) xs))
       ∙ ap first (variable_faults-append 1 (rules_in (take (i + 1) xs)) (rules_in (drop (i + 1) xs)))
       ∙ ap (λ l. first (l ++ variable_faults (1 + length (rules_in (take (i + 1) xs))) (rules_in (drop (i + 1) xs))))
-          (with_rule r e ∙ ap (λ l. l ++ rule_faults (length (rules_in (take i xs)) + 1) (plain_rule r)) none)
+      (with_rule r e ∙ ap (λ l. l ++ rule_faults (length (rules_in (take i xs)) + 1) (plain_rule r)) none)
       ∙ front (rule_faults (length (rules_in (take i xs)) + 1) (plain_rule r)) _ (ap (λ n. first (rule_faults n (plain_rule r))) (sym is_number) ∙ some)
     where
       front : (cs bs : List CheckFault) → first cs ≡ Some f → first (cs ++ bs) ≡ Some f
@@ -104,16 +104,16 @@ pub record Clean (rules : List PlainRule) (number : ℕ) : Type 0 where
 pub clean_rule : (xs : List Statement) (i : ℕ) (x : Statement) (r : Rule) (number : ℕ) → i < length xs → x ≡ get_or xs i x → x ≡ made.Rule r
     → Clean (rules_in (take i xs)) number → rule_faults (number + 1) (plain_rule r) ≡ [] → Clean (rules_in (take (i + 1) xs)) (number + 1)
 clean_rule xs i x r number h is e old none = record {
-    counted = ap (λ n. n + 1) old.counted ∙ sym (length-append (rules_in (take i xs)) (plain_rule r ∷ [])) ∙ ap length (sym (a_rule xs i x h is r e));
-    clean = with_rule xs i x h is r e ∙ none_append (variable_faults 1 (rules_in (take i xs))) _ old.clean (ap (λ n. rule_faults (n + 1) (plain_rule r)) (sym old.counted) ∙ none)
-  }
+  counted = ap (λ n. n + 1) old.counted ∙ sym (length-append (rules_in (take i xs)) (plain_rule r ∷ [])) ∙ ap length (sym (a_rule xs i x h is r e));
+  clean = with_rule xs i x h is r e ∙ none_append (variable_faults 1 (rules_in (take i xs))) _ old.clean (ap (λ n. rule_faults (n + 1) (plain_rule r)) (sym old.counted) ∙ none);
+}
 
 pub clean_show : (xs : List Statement) (i : ℕ) (x : Statement) (names : List NameArity) (number : ℕ) → i < length xs → x ≡ get_or xs i x → plain_statement x ≡ Show names
     → Clean (rules_in (take i xs)) number → Clean (rules_in (take (i + 1) xs)) number
 clean_show xs i x names number h is e old = record {
-    counted = old.counted ∙ ap length (sym (no_rule xs i x h is names e));
-    clean = ap (variable_faults 1) (no_rule xs i x h is names e) ∙ old.clean
-  }
+  counted = old.counted ∙ ap length (sym (no_rule xs i x h is names e));
+  clean = ap (variable_faults 1) (no_rule xs i x h is names e) ∙ old.clean;
+}
 
 -- all rules, round one of them
 pub rule_among : (xs : List Statement) (i : ℕ) (x : Statement) (r : Rule) → i < length xs → x ≡ get_or xs i x → x ≡ made.Rule r → rules_in xs ≡ rules_in (take i xs) ++ plain_rule r ∷ rules_in (drop (i + 1) xs)

@@ -1,17 +1,17 @@
 -- Cycles of names and of nodes, and ranks of both.
-use Rattle.std.proofs.Common.{length-append, ◌≡◌, ℕ, zero, suc, ◌+◌, ◌<◌, ◌≤◌, max, Bool, true, false, cond, ◌||◌, Option, Some, None, List, [], ◌∷◌, ◌++◌, length, get_or, map, refl, ap, sym, subst, ◌∙◌, ◌⊎◌, inl, inr, arith}
+use Rattle.std.proofs.Common.{length-append, ◌≡◌, ℕ, suc, ◌+◌, ◌<◌, ◌≤◌, max, Bool, true, false, cond, ◌||◌, Option, Some, None, List, [], ◌∷◌, ◌++◌, length, get_or, map, refl, ap, sym, subst, ◌∙◌, inl, inr, arith}
 use Rattle.std.specs.List.{cons_option}
 use Rattle.std.specs.Option.{option_map}
 use Rattle.std.specs.Bool.{Decides}
 use Rattle.std.specs.Ordering.{is_eq}
 use Rattle.std.proofs.lemmas.Bool.{true≢false}
 use Rattle.std.proofs.lemmas.List.{length-map}
-use Rattle.ordered_lists.specs.Canon.{has, Rising, has-append}
+use Rattle.ordered_lists.specs.Canon.{has, has-append}
 use Rattle.ev_term.specs.declared.atoms.NameArity.{NameArity}
 use Rattle.rule_ast.specs.Trees.{PlainRule}
 use Rattle.rule_ast.specs.Vars.{is_in}
 use Rattle.rule_check.specs.Names.{name_cmp, exact_names, head_name, head_names, body_names}
-use Rattle.rule_check.specs.Graphs.{Reaches, stop, step, HasCycle, greatest, targets, leads, IsRankList}
+use Rattle.rule_check.specs.Graphs.{Reaches, stop, step, HasCycle, greatest, leads, IsRankList}
 use Rattle.rule_check.specs.Cycles.{below, stands_on, IsOnCycle, AreAcyclic, IsFirstCycle, IsRanking, place, places, graph_of, rank_by}
 use Rattle.rule_check.proofs.Placing.{itself, same_name, no_place}
 use Rattle.rule_check.proofs.NameGraph.{place_below, place_name, place_some, in_places, places_in, targets_of, lead_from, lead_to}
@@ -40,7 +40,7 @@ below_here : (r : PlainRule) (rs : List PlainRule) (m : NameArity) → has name_
 below_here r rs m e =
     has-append exact_names m (cond (is_eq (name_cmp (head_name r) (head_name r))) (body_names r.body) []) (below rs (head_name r))
     ∙ or_left (has name_cmp m (cond (is_eq (name_cmp (head_name r) (head_name r))) (body_names r.body) [])) (has name_cmp m (below rs (head_name r)))
-        (ap (λ b. has name_cmp m (cond b (body_names r.body) [])) (itself (head_name r)) ∙ e)
+    (ap (λ b. has name_cmp m (cond b (body_names r.body) [])) (itself (head_name r)) ∙ e)
 
 below_there : (r : PlainRule) (rs : List PlainRule) (n m : NameArity) → has name_cmp m (below rs n) ≡ true → has name_cmp m (below (r ∷ rs) n) ≡ true
 below_there r rs n m e =
@@ -52,7 +52,7 @@ stands_head : (rs : List PlainRule) (n m : NameArity) → has name_cmp m (below 
 stands_head [] n m e = absurd (true≢false (sym e))
 stands_head (r ∷ rs) n m e =
     below_cases r rs n m (λ is h. or_left (is_eq (name_cmp n (head_name r))) (has name_cmp n (head_names rs)) is)
-        (λ h. or_right (is_eq (name_cmp n (head_name r))) (has name_cmp n (head_names rs)) (stands_head rs n m h)) e
+    (λ h. or_right (is_eq (name_cmp n (head_name r))) (has name_cmp n (head_names rs)) (stands_head rs n m h)) e
 
 module _ (heads : List NameArity) (rules : List PlainRule) where
   abbrev graph : List (List ℕ)
@@ -145,8 +145,8 @@ module _ (rules : List PlainRule) (rank : NameArity → ℕ) (r : IsRanking rule
   at_most [] m e = absurd (true≢false (sym e))
   at_most (n ∷ names) m e =
       or_cases (is_eq (name_cmp m n)) (has name_cmp m names)
-          (λ is. let same = ap rank (same_name m n is) in omega (arith, same))
-          (λ h. let more = at_most names m h in omega (arith, more)) e
+      (λ is. let same = ap rank (same_name m n is) in omega (arith, same))
+      (λ h. let more = at_most names m h in omega (arith, more)) e
 
   lower : (n m : NameArity) → stands_on rules n m ≡ true → rank m < rank n
   lower n m l =
@@ -160,9 +160,10 @@ module _ (rules : List PlainRule) (rank : NameArity → ℕ) (r : IsRanking rule
 
   each_off : (rs : List PlainRule) → ((n m : NameArity) → has name_cmp m (below rs n) ≡ true → stands_on rules n m ≡ true) → AreAcyclic rules rs
   each_off [] h = tt
-  each_off (q ∷ rs) h =
-      ((λ (m, e, t). let one = lower (head_name q) m (h (head_name q) m (below_here q rs m e)) in let rest = down m (head_name q) t in absurd (omega (arith, one, rest))),
-       each_off rs (λ n m e. h n m (below_there q rs n m e)))
+  each_off (q ∷ rs) h = (
+    (λ (m, e, t). let one = lower (head_name q) m (h (head_name q) m (below_here q rs m e)) in let rest = down m (head_name q) t in absurd (omega (arith, one, rest))),
+    each_off rs (λ n m e. h n m (below_there q rs n m e)),
+  )
 
   pub none_on_cycle : AreAcyclic rules rules
   none_on_cycle = each_off rules (λ n m e. e)
@@ -184,9 +185,9 @@ pub record NoCycleYet (rules before : List PlainRule) (number : ℕ) : Type 0 wh
 
 pub one_off : (rules before : List PlainRule) (number : ℕ) (r : PlainRule) → NoCycleYet rules before number → (IsOnCycle rules r → ⊥) → NoCycleYet rules (before ++ r ∷ []) (number + 1)
 one_off rules before number r n h = record {
-    counted = ap (λ k. k + 1) n.counted ∙ sym (length-append before (r ∷ []));
-    off = acyclic_more rules before r n.off h
-  }
+  counted = ap (λ k. k + 1) n.counted ∙ sym (length-append before (r ∷ []));
+  off = acyclic_more rules before r n.off h;
+}
 
 pub cycle_at : (rules before rest : List PlainRule) (number : ℕ) (r : PlainRule) → rules ≡ before ++ r ∷ rest → NoCycleYet rules before number → IsOnCycle rules r → IsFirstCycle rules 1 rules (number + 1)
 cycle_at rules before rest number r is n h =

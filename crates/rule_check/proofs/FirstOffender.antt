@@ -1,5 +1,5 @@
 -- Sets of slots in place of the tests of the definitions.
-use Rattle.std.proofs.Common.{◌≡◌, ℕ, Bool, true, ◌||◌, ◌&&◌, Option, Some, None, List, [], ◌∷◌, ◌++◌, refl, ap, sym, ◌∙◌}
+use Rattle.std.proofs.Common.{◌≡◌, ℕ, ◌||◌, ◌&&◌, Option, Some, List, ◌++◌, ap, sym, ◌∙◌}
 use Rattle.std.specs.Option.{option_or}
 use Rattle.ev_term.specs.SlotSets.{slot_in}
 use Rattle.rule_ast.specs.Trees.{PlainPattern, Either, Not}

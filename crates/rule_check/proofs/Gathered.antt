@@ -1,5 +1,5 @@
 -- The names of one statement more.
-use Rattle.std.proofs.Common.{◌≡◌, ℕ, ◌+◌, ◌<◌, ◌≤◌, Bool, true, false, cond, not, ◌||◌, Option, Some, None, List, [], ◌∷◌, ◌++◌, length, get_or, take, drop, map, refl, ap, sym, ◌∙◌, arith, append_assoc, append-nil, length-take-le, leb-true, nat_le, ◌&&◌}
+use Rattle.std.proofs.Common.{◌≡◌, ℕ, ◌+◌, ◌<◌, ◌≤◌, true, false, cond, ◌||◌, Some, List, [], ◌∷◌, ◌++◌, length, get_or, take, drop, map, refl, ap, sym, ◌∙◌, arith, append_assoc, append-nil, length-take-le, leb-true, nat_le, ◌&&◌}
 use Rattle.std.proofs.lemmas.Bool.{and_parts}
 use Rattle.std.proofs.lemmas.List.{take_more, take-append-drop, map-append}
 use Rattle.ordered_lists.specs.Canon.{has}
@@ -58,7 +58,7 @@ module _ (xs : List Statement) (i : ℕ) (x : Statement) (h : i < length xs) (is
   one_shown more e old = sym (
       ap has_show plain_all ∙ has_show-append (map plain_statement (take i xs) ++ plain_statement x ∷ []) (map plain_statement (drop (i + 1) xs))
       ∙ ap (λ b. b || has_show (map plain_statement (drop (i + 1) xs)))
-          (has_show-append (map plain_statement (take i xs)) (plain_statement x ∷ []) ∙ ap (λ y. has_show (map plain_statement (take i xs)) || has_show (y ∷ [])) e ∙ ap (λ b. b || true) old))
+      (has_show-append (map plain_statement (take i xs)) (plain_statement x ∷ []) ∙ ap (λ y. has_show (map plain_statement (take i xs)) || has_show (y ∷ [])) e ∙ ap (λ b. b || true) old))
 
 -- ---- shown names that head no rule
 

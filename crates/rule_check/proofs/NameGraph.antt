@@ -1,10 +1,9 @@
 -- The graph of the names that head rules.
-use Rattle.std.proofs.Common.{◌≡◌, ℕ, zero, suc, ◌+◌, ◌<◌, ◌≤◌, Bool, true, false, cond, ◌||◌, ◌==◌, Option, Some, None, List, [], ◌∷◌, ◌++◌, length, get_or, set, replicate, map, refl, ap, sym, subst, ◌∙◌, ◌⊎◌, inl, inr, arith, append_assoc, append-nil}
+use Rattle.std.proofs.Common.{◌≡◌, ℕ, zero, suc, ◌<◌, ◌≤◌, Bool, true, false, cond, ◌||◌, ◌==◌, Option, Some, None, List, [], ◌∷◌, ◌++◌, length, get_or, set, replicate, map, refl, ap, sym, ◌∙◌, ◌⊎◌, inl, inr, arith, append-nil}
 use Rattle.std.specs.Option.{option_map}
-use Rattle.std.specs.List.{flat_map, filter_map, cons_option}
+use Rattle.std.specs.List.{cons_option}
 use Rattle.std.specs.Ordering.{is_eq}
-use Rattle.std.specs.declared.cmp.Ordering.{Ordering}
-use Rattle.std.specs.declared.cmp.Ordering.TheVariants.{Less, Equal, Greater}
+use Rattle.std.specs.declared.cmp.Ordering.TheVariants.{Less}
 use Rattle.std.proofs.lemmas.Bool.{true≢false, cases_lt}
 use Rattle.std.proofs.lemmas.Bool.Decides.{Decides-eqb}
 use Rattle.std.proofs.lemmas.List.{length-map, get_or-map, get_or_past}
@@ -12,8 +11,8 @@ use Rattle.std.proofs.lemmas.List.Concat.{flat_map-append}
 use Rattle.ordered_lists.specs.Canon.{has, Rising, AllAbove}
 use Rattle.ev_term.specs.declared.atoms.NameArity.{NameArity}
 use Rattle.rule_ast.specs.Trees.{PlainRule}
-use Rattle.rule_ast.specs.Vars.{is_in, is_in-none, is_in-cons, is_in-append}
-use Rattle.rule_check.specs.Names.{name_cmp, exact_names, head_name, head_names, body_names, IsPlace}
+use Rattle.rule_ast.specs.Vars.{is_in, is_in-none, is_in-cons}
+use Rattle.rule_check.specs.Names.{name_cmp, head_name, head_names, body_names, IsPlace}
 use Rattle.rule_check.specs.Graphs.{targets, leads, IsGraph}
 use Rattle.rule_check.specs.Cycles.{below, place, places, graph_of}
 use Rattle.rule_check.proofs.Placing.{itself, same_name, places-append}
@@ -66,17 +65,17 @@ module _ (heads : List NameArity) where
       at rest None p f = let (m, h, q) = rest f in (m, or_right (is_eq (name_cmp m n)) (has name_cmp m names) h, q)
       at rest (Some k) p f =
           or_cases (k == j) (is_in j (places heads names))
-              (λ t. (n, or_left (is_eq (name_cmp n n)) (has name_cmp n names) (itself n), p ∙ ap Some ((Decides-eqb k j).0 t)))
-              (λ t. let (m, h, q) = rest t in (m, or_right (is_eq (name_cmp m n)) (has name_cmp m names) h, q))
-              (sym (is_in-cons j k (places heads names)) ∙ f)
+          (λ t. (n, or_left (is_eq (name_cmp n n)) (has name_cmp n names) (itself n), p ∙ ap Some ((Decides-eqb k j).0 t)))
+          (λ t. let (m, h, q) = rest t in (m, or_right (is_eq (name_cmp m n)) (has name_cmp m names) h, q))
+          (sym (is_in-cons j k (places heads names)) ∙ f)
 
   pub places_in : (names : List NameArity) (m : NameArity) (j : ℕ) → has name_cmp m names ≡ true → place heads m ≡ Some j → is_in j (places heads names) ≡ true
   places_in [] m j e p = absurd (true≢false (sym e))
   places_in (n ∷ names) m j e p =
       or_cases (is_eq (name_cmp m n)) (has name_cmp m names)
-          (λ t. ap (λ o. is_in j (cons_option o (places heads names))) (ap (place heads) (sym (same_name m n t)) ∙ p) ∙ is_in-cons j j (places heads names) ∙ or_left (j == j) (is_in j (places heads names)) ((Decides-eqb j j).1 refl))
-          (λ t. at (place heads n) (places_in names m j t p))
-          e
+      (λ t. ap (λ o. is_in j (cons_option o (places heads names))) (ap (place heads) (sym (same_name m n t)) ∙ p) ∙ is_in-cons j j (places heads names) ∙ or_left (j == j) (is_in j (places heads names)) ((Decides-eqb j j).1 refl))
+      (λ t. at (place heads n) (places_in names m j t p))
+      e
     where
       at : (o : Option ℕ) → is_in j (places heads names) ≡ true → is_in j (cons_option o (places heads names)) ≡ true
       at None f = f
@@ -158,7 +157,7 @@ module _ (all : List NameArity) (rules : List PlainRule) (r : PlainRule) where
   rows_more (h ∷ heads) zero a l e = λ i. next_same h e i ∷ all_other h heads a.0 e i
   rows_more (h ∷ heads) (suc i) a l e =
       λ k. next_other h (ap (λ x. is_eq (name_cmp h x)) (sym e) ∙ below_other h (get_or heads i (head_name r)) (in_above h heads i (head_name r) a.0 (omega arith))) k
-           ∷ rows_more heads i a.1 (omega arith) e k
+      ∷ rows_more heads i a.1 (omega arith) e k
 
 pub graph_more : (heads : List NameArity) (rules : List PlainRule) (r : PlainRule) (i : ℕ) → Rising name_cmp heads → IsPlace (Some i) (head_name r) heads
     → graph_of heads (rules ++ r ∷ []) ≡ set (graph_of heads rules) i (targets (graph_of heads rules) i ++ places heads (body_names r.body))

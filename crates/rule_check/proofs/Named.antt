@@ -1,5 +1,5 @@
 -- The variables of shaped rules have names, and so do those that stand where they may not.
-use Rattle.std.proofs.Common.{◌≡◌, ℕ, ◌<◌, Bool, true, false, not, ◌||◌, ◌&&◌, cond, nat_lt, nat_le, Option, Some, None, List, [], ◌∷◌, ◌++◌, length, map, refl, ap, sym, subst, ◌∙◌}
+use Rattle.std.proofs.Common.{◌≡◌, ℕ, ◌<◌, Bool, true, false, not, ◌||◌, ◌&&◌, cond, nat_lt, nat_le, Option, Some, List, [], ◌∷◌, ◌++◌, length, map, refl, ap, sym, subst, ◌∙◌}
 use Rattle.std.specs.List.{list_all, flat_map, filter}
 use Rattle.std.proofs.lemmas.Bool.{and_parts, true≢false}
 use Rattle.std.proofs.lemmas.Bool.Decides.{Decides-ltb}
@@ -7,7 +7,7 @@ use Rattle.std.proofs.lemmas.List.Folds.{list_all-append}
 use Rattle.ev_term.specs.declared.terms.Pat.{Pat, out-Pat, roll-Pat, out-roll-Pat}
 use Rattle.ev_term.specs.declared.terms.Pat.TheOpen.{Pat-F}
 use Rattle.ev_term.specs.declared.terms.Pat.TheOpen.Pat-F.{Var, Any, Num, Sym, Text, Comp}
-use Rattle.ev_term.specs.declared.terms.Pat.TheFolds.{fold-Pat, fold_out-Pat, map-Pat, ind-Pat}
+use Rattle.ev_term.specs.declared.terms.Pat.TheFolds.{fold_out-Pat, map-Pat, ind-Pat}
 use Rattle.ev_term.specs.declared.atoms.PatAtom.{PatAtom}
 use Rattle.rule_ast.specs.Trees.{PlainCond, Value, Calculate, Compare, AndAlso, OrElse, Negate, PlainPattern, Atom, Both, Either, Where, Exact, Within, Not, PlainRule}
 use Rattle.rule_ast.specs.Shaped.{parts_pass, passes, is_argument, is_variable, is_ground, is_head_argument, is_shaped_cond, is_shaped_atom, is_shaped_pattern, is_shaped_head, is_shaped_rule, names_differ, is_length}
@@ -127,7 +127,7 @@ module _ (vars_count : ℕ) where
       let h = and_parts (is_shaped_pattern vars_count i) (is_shaped_pattern vars_count b && is_shaped_pattern vars_count a) e in
       let g = and_parts (is_shaped_pattern vars_count b) (is_shaped_pattern vars_count a) h.1 in
       holds-append named (where_offenders i) (where_offenders b ++ where_offenders a) (wheres_named i h.0)
-          (holds-append named (where_offenders b) (where_offenders a) (wheres_named b g.0) (wheres_named a g.1))
+      (holds-append named (where_offenders b) (where_offenders a) (wheres_named b g.0) (wheres_named a g.1))
 
   atom_named : (may : ℕ → Bool) (a : PatAtom) → is_shaped_atom vars_count a ≡ true → Holds named (outside may (atom_vars a))
   atom_named may a e = holds-filter named (λ s. not (may s)) (atom_vars a) (held_args named a.args (and_parts (nat_le (length a.args) 16) (list_all (is_argument vars_count) a.args) e).1)
@@ -138,7 +138,7 @@ module _ (vars_count : ℕ) where
   ors_named may (Either l r) e =
       let h = and_parts (is_shaped_pattern vars_count l) (is_shaped_pattern vars_count r) e in
       holds-append named (or_offenders (λ s. may s && is_in s (vars r)) l) (or_offenders (λ s. may s && is_in s (vars l)) r)
-          (ors_named (λ s. may s && is_in s (vars r)) l h.0) (ors_named (λ s. may s && is_in s (vars l)) r h.1)
+      (ors_named (λ s. may s && is_in s (vars r)) l h.0) (ors_named (λ s. may s && is_in s (vars l)) r h.1)
   ors_named may (Where p c) e = ors_named may p (and_parts (is_shaped_pattern vars_count p) (is_shaped_cond vars_count c) e).0
   ors_named may (Exact p q) e = ors_named may p (and_parts (is_shaped_pattern vars_count p) (is_length q) e).0
   ors_named may (Within p q) e = ors_named may p (and_parts (is_shaped_pattern vars_count p) (is_length q) e).0
@@ -146,7 +146,7 @@ module _ (vars_count : ℕ) where
       let h = and_parts (is_shaped_pattern vars_count i) (is_shaped_pattern vars_count b && is_shaped_pattern vars_count a) e in
       let g = and_parts (is_shaped_pattern vars_count b) (is_shaped_pattern vars_count a) h.1 in
       holds-append named (or_offenders (λ s. true) i) (or_offenders may b ++ or_offenders may a) (ors_named (λ s. true) i h.0)
-          (holds-append named (or_offenders may b) (or_offenders may a) (ors_named may b g.0) (ors_named may a g.1))
+      (holds-append named (or_offenders may b) (or_offenders may a) (ors_named may b g.0) (ors_named may a g.1))
 
   pub nots_named : (may : ℕ → Bool) (p : PlainPattern) → is_shaped_pattern vars_count p ≡ true → Holds named (not_offenders may p)
   nots_named may (Atom a) e = atom_named may a e
@@ -159,7 +159,7 @@ module _ (vars_count : ℕ) where
       let h = and_parts (is_shaped_pattern vars_count i) (is_shaped_pattern vars_count b && is_shaped_pattern vars_count a) e in
       let g = and_parts (is_shaped_pattern vars_count b) (is_shaped_pattern vars_count a) h.1 in
       holds-append named (not_offenders (λ s. is_in s (vars b) || is_in s (vars a)) i) (not_offenders may b ++ not_offenders may a) (nots_named (λ s. is_in s (vars b) || is_in s (vars a)) i h.0)
-          (holds-append named (not_offenders may b) (not_offenders may a) (nots_named may b g.0) (nots_named may a g.1))
+      (holds-append named (not_offenders may b) (not_offenders may a) (nots_named may b g.0) (nots_named may a g.1))
 
   -- ---- heads
 
@@ -206,7 +206,7 @@ rule_named r e =
       heads = holds-filter (named n) (λ s. not (among (vars r.body) s)) (atom_vars r.head) (head_args_named n r.head.args args.1);
       wheres = wheres_named n r.body both.1;
       ors = ors_named n (λ s. true) r.body both.1;
-      nots = nots_named n (λ s. true) r.body both.1
+      nots = nots_named n (λ s. true) r.body both.1;
     }
 
 pub offender_named : (xs : List ℕ) (n s : ℕ) (o : Option ℕ) → o ≡ first xs → o ≡ Some s → Holds (named n) xs → s < n

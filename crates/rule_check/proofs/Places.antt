@@ -1,5 +1,5 @@
 -- What a search for a name finds among names in order.
-use Rattle.std.proofs.Common.{ℕ, ◌≡◌, ◌+◌, ◌<◌, ◌≤◌, refl, Bool, false, true, Option, Some, None, is_some, List, length, get_or, ap, sym, ◌∙◌, arith}
+use Rattle.std.proofs.Common.{ℕ, ◌≡◌, ◌+◌, ◌<◌, ◌≤◌, refl, Bool, false, Option, Some, None, is_some, List, length, get_or, ap, sym, ◌∙◌, arith}
 use Rattle.std.specs.List.{AllWithin}
 use Rattle.std.specs.List.Sorted.{IsNonDecreasingBy}
 use Rattle.std.specs.Ordering.{ordering_index}
@@ -33,12 +33,11 @@ module _ (names : List NameArity) (q : NameArity) where
 
   pub narrowed_none : Narrowed 0 (length names)
   narrowed_none = record {
-      within = omega arith;
-      crossed = omega arith;
-      less = λ k d z h. absurd (omega arith);
-      greater = λ k d z h. absurd (omega arith)
-    }
-
+    within = omega arith;
+    crossed = omega arith;
+    less = λ k d z h. absurd (omega arith);
+    greater = λ k d z h. absurd (omega arith);
+  }
 
 module _ (names : List NameArity) (q : NameArity) (rising : Rising name_cmp names) where
   climbs : IsNonDecreasingBy (λ n. ordering_index (name_cmp n q)) names
@@ -46,25 +45,25 @@ module _ (names : List NameArity) (q : NameArity) (rising : Rising name_cmp name
 
   pub narrowed_less : (low high middle : ℕ) (n : NameArity) → Narrowed names q low high → middle < high → n ≡ get_or names middle n → name_cmp n q ≡ Less → Narrowed names q (middle + 1) high
   narrowed_less low high middle n old h is less = record {
-      within = old.within;
-      crossed = omega arith;
-      less = λ k d z below.
-          let here : name_cmp (get_or names middle d) q ≡ Less = ap (λ m. name_cmp m q) (get_or_default names middle d n (omega (arith, old.within)) ∙ sym is) ∙ less in
-          let up = climbs k middle d (omega arith) (omega (arith, old.within)) in
-          least (name_cmp (get_or names k d) q) (omega (arith, up, ap ordering_index here));
-      greater = old.greater
-    }
+    within = old.within;
+    crossed = omega arith;
+    less = λ k d z below.
+        let here : name_cmp (get_or names middle d) q ≡ Less = ap (λ m. name_cmp m q) (get_or_default names middle d n (omega (arith, old.within)) ∙ sym is) ∙ less in
+        let up = climbs k middle d (omega arith) (omega (arith, old.within)) in
+        least (name_cmp (get_or names k d) q) (omega (arith, up, ap ordering_index here));
+    greater = old.greater;
+  }
 
   pub narrowed_greater : (low high middle : ℕ) (n : NameArity) → Narrowed names q low high → low ≤ middle → middle < high → n ≡ get_or names middle n → name_cmp n q ≡ Greater → Narrowed names q low middle
   narrowed_greater low high middle n old l h is greater = record {
-      within = omega (arith, old.within);
-      crossed = l;
-      less = old.less;
-      greater = λ k d above within.
-          let here : name_cmp (get_or names middle d) q ≡ Greater = ap (λ m. name_cmp m q) (get_or_default names middle d n (omega (arith, old.within)) ∙ sym is) ∙ greater in
-          let up = climbs middle k d above within in
-          greatest (name_cmp (get_or names k d) q) (omega (arith, up, ap ordering_index here))
-    }
+    within = omega (arith, old.within);
+    crossed = l;
+    less = old.less;
+    greater = λ k d above within.
+        let here : name_cmp (get_or names middle d) q ≡ Greater = ap (λ m. name_cmp m q) (get_or_default names middle d n (omega (arith, old.within)) ∙ sym is) ∙ greater in
+        let up = climbs middle k d above within in
+        greatest (name_cmp (get_or names k d) q) (omega (arith, up, ap ordering_index here));
+  }
 
   pub narrowed_out : (low high : ℕ) → Narrowed names q low high → high ≤ low → has name_cmp q names ≡ false
   narrowed_out low high n h =

@@ -37,7 +37,7 @@ module _ (rules : List PlainRule) (rank : NameArity → ℕ) (r : IsRanking rule
   pub rank_settles : (k : ℕ) (n : NameArity) → rank n ≤ k → rank_within k rules n ≡ rank n
   rank_settles zero n h = omega arith
   rank_settles (suc k) n h = at (has name_cmp n (head_names rules)) (r n)
-    (λ b. greatest_agree (rank_within k rules) rank (below rules n) (λ m e. rank_settles k m (let most = at_most rank (below rules n) m e in omega (arith, b, most, h))))
+      (λ b. greatest_agree (rank_within k rules) rank (below rules n) (λ m e. rank_settles k m (let most = at_most rank (below rules n) m e in omega (arith, b, most, h))))
     where
       at : (b : Bool) → rank n ≡ cond b (greatest (map rank (below rules n)) + 1) 0
           → (rank n ≡ greatest (map rank (below rules n)) + 1 → greatest (map (rank_within k rules) (below rules n)) ≡ greatest (map rank (below rules n)))

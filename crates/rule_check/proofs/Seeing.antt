@@ -1,5 +1,5 @@
 -- A walk over a graph that marks what it has seen.
-use Rattle.std.proofs.Common.{◌≡◌, ℕ, zero, suc, ◌+◌, ◌<◌, ◌≤◌, Bool, true, false, cond, ◌||◌, ◌==◌, List, [], ◌∷◌, ◌++◌, length, get_or, set, take, drop, replicate, refl, ap, sym, subst, ◌∙◌, ◌⊎◌, inl, inr, arith}
+use Rattle.std.proofs.Common.{◌≡◌, ℕ, zero, suc, ◌+◌, ◌<◌, Bool, true, false, ◌||◌, ◌==◌, List, [], ◌∷◌, ◌++◌, length, get_or, set, take, drop, replicate, refl, ap, sym, subst, ◌∙◌, ◌⊎◌, inl, inr, arith}
 use Rattle.std.proofs.lemmas.Bool.{true≢false, cases_eq}
 use Rattle.std.proofs.lemmas.Bool.Decides.{Decides-eqb}
 use Rattle.std.proofs.lemmas.List.{get_or-set_same, get_or-set_other, take_more, get_or_default, length-replicate, take_all, drop_all, append-nil}
@@ -21,8 +21,8 @@ or_right false b e = e
 pub in_more : (t x : ℕ) (xs : List ℕ) {P : Type 0} → (is_in t xs ≡ true → P) → (t ≡ x → P) → is_in t (xs ++ x ∷ []) ≡ true → P
 in_more t x xs f g e =
     or_cases (is_in t xs) (is_in t (x ∷ [])) f
-        (λ h. or_cases (x == t) (is_in t []) (λ k. g (sym ((Decides-eqb x t).0 k))) (λ k. absurd (true≢false (sym k ∙ is_in-none t))) (sym (is_in-cons t x []) ∙ h))
-        (sym (is_in-append t xs (x ∷ [])) ∙ e)
+    (λ h. or_cases (x == t) (is_in t []) (λ k. g (sym ((Decides-eqb x t).0 k))) (λ k. absurd (true≢false (sym k ∙ is_in-none t))) (sym (is_in-cons t x []) ∙ h))
+    (sym (is_in-append t xs (x ∷ [])) ∙ e)
 
 -- an element stands in the list
 pub in_at : (xs : List ℕ) (i x : ℕ) → i < length xs → x ≡ get_or xs i x → is_in x xs ≡ true
@@ -51,22 +51,22 @@ module _ (graph : List (List ℕ)) (node : ℕ) (old : List Bool) where
 
   pub seen_already : seen_at old node ≡ true → Seen graph node old old
   seen_already e = record {
-      here = e;
-      keeps = λ i h. h;
-      closed = λ i j f h l. clash (seen_at old i) f h;
-      sound = λ i f h. clash (seen_at old i) f h;
-      fewer = omega arith
-    }
+    here = e;
+    keeps = λ i h. h;
+    closed = λ i j f h l. clash (seen_at old i) f h;
+    sound = λ i f h. clash (seen_at old i) f h;
+    fewer = omega arith;
+  }
 
   pub seeing_none : node < length old → seen_at old node ≡ false → Seeing (set old node true) []
   seeing_none h e = record {
-      here = same;
-      keeps = λ i f. at i (cases_eq i node) f;
-      closed = λ i j d f g l. clash (seen_at old i) f (sym (other i d) ∙ g);
-      done = λ j f. absurd (true≢false (sym f ∙ is_in-none j));
-      sound = λ i f g. from i (cases_eq i node) f g;
-      fewer = let less = unseen-set old node h e in omega (arith, less)
-    }
+    here = same;
+    keeps = λ i f. at i (cases_eq i node) f;
+    closed = λ i j d f g l. clash (seen_at old i) f (sym (other i d) ∙ g);
+    done = λ j f. absurd (true≢false (sym f ∙ is_in-none j));
+    sound = λ i f g. from i (cases_eq i node) f g;
+    fewer = let less = unseen-set old node h e in omega (arith, less);
+  }
     where
       same : seen_at (set old node true) node ≡ true
       same = get_or-set_same old node true false h
@@ -84,13 +84,13 @@ module _ (graph : List (List ℕ)) (node : ℕ) (old : List Bool) where
 
   pub seeing_more : (now new : List Bool) (followed : List ℕ) (t : ℕ) → leads graph node t ≡ true → Seeing now followed → Seen graph t now new → Seeing new (followed ++ t ∷ [])
   seeing_more now new followed t l s n = record {
-      here = n.keeps node s.here;
-      keeps = λ i f. n.keeps i (s.keeps i f);
-      closed = λ i j d f g lead. at i j d f g lead (seen_at now i) refl;
-      done = λ j f. in_more j t followed (λ h. n.keeps j (s.done j h)) (λ h. ap (seen_at new) h ∙ n.here) f;
-      sound = λ i f g. from i f g (seen_at now i) refl;
-      fewer = let a = n.fewer in let b = s.fewer in omega (arith, a, b)
-    }
+    here = n.keeps node s.here;
+    keeps = λ i f. n.keeps i (s.keeps i f);
+    closed = λ i j d f g lead. at i j d f g lead (seen_at now i) refl;
+    done = λ j f. in_more j t followed (λ h. n.keeps j (s.done j h)) (λ h. ap (seen_at new) h ∙ n.here) f;
+    sound = λ i f g. from i f g (seen_at now i) refl;
+    fewer = let a = n.fewer in let b = s.fewer in omega (arith, a, b);
+  }
     where
       at : (i j : ℕ) → (i ≡ node → ⊥) → seen_at old i ≡ false → seen_at new i ≡ true → leads graph i j ≡ true → (b : Bool) → seen_at now i ≡ b → seen_at new j ≡ true
       at i j d f g lead true is = n.keeps j (s.closed i j d f is lead)
@@ -102,12 +102,12 @@ module _ (graph : List (List ℕ)) (node : ℕ) (old : List Bool) where
 
   pub seen_all : (now : List Bool) → Seeing now (targets graph node) → Seen graph node old now
   seen_all now s = record {
-      here = s.here;
-      keeps = s.keeps;
-      closed = λ i j f g l. at i j (cases_eq i node) f g l;
-      sound = s.sound;
-      fewer = let a = s.fewer in omega (arith, a)
-    }
+    here = s.here;
+    keeps = s.keeps;
+    closed = λ i j f g l. at i j (cases_eq i node) f g l;
+    sound = s.sound;
+    fewer = let a = s.fewer in omega (arith, a);
+  }
     where
       at : (i j : ℕ) → (i ≡ node) ⊎ (i ≡ node → ⊥) → seen_at old i ≡ false → seen_at now i ≡ true → leads graph i j ≡ true → seen_at now j ≡ true
       at i j (inl p) f g l = s.done j (sym (ap (λ k. leads graph k j) p) ∙ l)
@@ -132,19 +132,19 @@ none_at (suc n) (suc i) = none_at n i
 
 pub seen_none : (graph : List (List ℕ)) (n : ℕ) → n ≡ length graph → SeenFrom graph [] (replicate n false)
 seen_none graph n is = record {
-    sized = length-replicate n false ∙ is;
-    started = λ i e. absurd (true≢false (sym e ∙ is_in-none i));
-    closed = λ i j s l. absurd (true≢false (sym s ∙ none_at n i));
-    sound = λ j s. absurd (true≢false (sym s ∙ none_at n j))
-  }
+  sized = length-replicate n false ∙ is;
+  started = λ i e. absurd (true≢false (sym e ∙ is_in-none i));
+  closed = λ i j s l. absurd (true≢false (sym s ∙ none_at n i));
+  sound = λ j s. absurd (true≢false (sym s ∙ none_at n j));
+}
 
 pub seen_one : (graph : List (List ℕ)) (starts : List ℕ) (old new : List Bool) (start : ℕ) → SeenFrom graph starts old → length new ≡ length old → Seen graph start old new → SeenFrom graph (starts ++ start ∷ []) new
 seen_one graph starts old new start s same n = record {
-    sized = same ∙ s.sized;
-    started = λ i e. in_more i start starts (λ h. n.keeps i (s.started i h)) (λ h. ap (seen_at new) h ∙ n.here) e;
-    closed = λ i j f l. at i j (seen_at old i) refl f l;
-    sound = λ j f. from j (seen_at old j) refl f
-  }
+  sized = same ∙ s.sized;
+  started = λ i e. in_more i start starts (λ h. n.keeps i (s.started i h)) (λ h. ap (seen_at new) h ∙ n.here) e;
+  closed = λ i j f l. at i j (seen_at old i) refl f l;
+  sound = λ j f. from j (seen_at old j) refl f;
+}
   where
     at : (i j : ℕ) (b : Bool) → seen_at old i ≡ b → seen_at new i ≡ true → leads graph i j ≡ true → seen_at new j ≡ true
     at i j true is f l = n.keeps j (s.closed i j is l)

@@ -1,8 +1,7 @@
 -- What the steps of a check tell of the whole.
-use Rattle.std.proofs.Common.{◌≡◌, ℕ, suc, ◌+◌, ◌≤◌, Bool, true, false, cond, ◌||◌, Option, Some, None, List, [], ◌∷◌, ◌++◌, length, map, refl, ap, sym, subst, ◌∙◌, ◌⊎◌, inl, inr, arith, leb-true}
+use Rattle.std.proofs.Common.{◌≡◌, ℕ, ◌+◌, ◌≤◌, Bool, true, false, cond, ◌||◌, Some, None, List, [], ◌∷◌, ◌++◌, length, map, refl, ap, sym, subst, ◌∙◌, ◌⊎◌, inl, inr, arith, leb-true}
 use Rattle.std.specs.Ordering.{is_eq}
 use Rattle.std.proofs.lemmas.Bool.{true≢false}
-use Rattle.std.proofs.lemmas.List.{length-map}
 use Rattle.ordered_lists.specs.Canon.{canon, has}
 use Rattle.ev_term.specs.declared.atoms.NameArity.{NameArity}
 use Rattle.rule_ast.specs.declared.statements.Statement.{Statement}
@@ -11,11 +10,11 @@ use Rattle.rule_ast.specs.Shaped.{IsShaped}
 use Rattle.rule_ast.specs.Trees.{PlainRule, PlainStatement}
 use Rattle.rule_check.specs.Offenders.{first}
 use Rattle.rule_check.specs.Sound.{rules_of}
-use Rattle.rule_check.specs.Names.{name_cmp, head_names, shown_names, outputs, unknown_shows, AreShownKnown}
+use Rattle.rule_check.specs.Names.{name_cmp, head_names, shown_names, unknown_shows, AreShownKnown}
 use Rattle.rule_check.specs.Graphs.{HasCycle, IsGraph, IsRankList}
-use Rattle.rule_check.specs.Cycles.{IsOnCycle, AreAcyclic, IsFirstCycle, graph_of, rank_by}
+use Rattle.rule_check.specs.Cycles.{AreAcyclic, IsFirstCycle, graph_of, rank_by}
 use Rattle.rule_check.specs.Faults.{variable_faults}
-use Rattle.rule_check.specs.Verdict.{IsSound, IsRefusal, show_faults, early_faults, AreNameRanks, IsChecked}
+use Rattle.rule_check.specs.Verdict.{IsSound, IsRefusal, show_faults, early_faults, AreNameRanks}
 use Rattle.rule_check.specs.declared.faults.CheckFault.{CheckFault}
 use Rattle.rule_check.specs.declared.faults.CheckFault.TheVariants.{ShowUnknown, Cycle, Memory}
 use Rattle.rule_check.proofs.Safety.{append_none, none_append, safe_rules, safe_rules_back}
@@ -54,8 +53,8 @@ unknown_none : (k : ℕ) (heads shown : List NameArity) → ((n : NameArity) →
 unknown_none k heads [] h = refl
 unknown_none k heads (m ∷ shown) h =
     none_append (cond (has name_cmp m heads) [] (k ∷ [])) (unknown_shows (k + 1) heads shown)
-        (ap (λ c. cond c [] (k ∷ [])) (h m (or_left (is_eq (name_cmp m m)) (has name_cmp m shown) (itself m))))
-        (unknown_none (k + 1) heads shown (λ n e. h n (or_right (is_eq (name_cmp n m)) (has name_cmp n shown) e)))
+    (ap (λ c. cond c [] (k ∷ [])) (h m (or_left (is_eq (name_cmp m m)) (has name_cmp m shown) (itself m))))
+    (unknown_none (k + 1) heads shown (λ n e. h n (or_right (is_eq (name_cmp n m)) (has name_cmp n shown) e)))
 
 empty_first : {A : Type 0} (xs : List A) → None ≡ first xs → xs ≡ []
 empty_first [] e = refl
@@ -106,7 +105,7 @@ module _ (rules : List PlainRule) (heads : List NameArity) (is : heads ≡ canon
         are = rank_is_one rules (rank_by heads ranks) ranking few;
         sized = r.sized ∙ graph_length heads rules;
         ranking = one_ranking rules (rank_by heads ranks) ranking few;
-        acyclic = none_on_cycle rules (rank_by heads ranks) ranking
+        acyclic = none_on_cycle rules (rank_by heads ranks) ranking;
       }
 
 pub few_of_shaped : (xs : List Statement) → IsShaped (map plain_statement xs) → length (rules_of (map plain_statement xs)) ≤ 1024

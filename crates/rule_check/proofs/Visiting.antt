@@ -3,12 +3,11 @@ use Rattle.std.proofs.Common.{◌≡◌, ℕ, zero, suc, ◌+◌, ◌<◌, ◌�
 use Rattle.std.proofs.lemmas.Bool.{true≢false, cases_eq}
 use Rattle.std.proofs.lemmas.List.{get_or-set_same, get_or-set_other, map-append, length-map, length-replicate}
 use Rattle.rule_ast.specs.Vars.{is_in, is_in-none, is_in-cons}
-use Rattle.rule_check.specs.Graphs.{Reaches, stop, step, Returns, greatest, leads, targets, mark_at, is_open, is_new, is_ranked, rank_of, rank_at, tally, AreRanked, Follows, OpenLead, HasCycle, Visited, IsRankList, RankedBelow}
+use Rattle.rule_check.specs.Graphs.{Reaches, stop, step, Returns, greatest, leads, targets, mark_at, is_open, is_new, is_ranked, rank_of, rank_at, tally, AreRanked, Follows, OpenLead, Visited, IsRankList, RankedBelow}
 use Rattle.rule_check.specs.declared.graph.Mark.{Mark}
 use Rattle.rule_check.specs.declared.graph.Mark.TheVariants.{New, Open, Ranked}
 use Rattle.rule_check.proofs.Seeing.{in_more}
 use Rattle.std.proofs.lemmas.Bool.Decides.{Decides-eqb}
-
 
 abbrev pub ones : Bool → ℕ
 ones b = cond b 1 0
@@ -30,7 +29,7 @@ map_agree : (f g : ℕ → ℕ) (xs : List ℕ) → ((j : ℕ) → is_in j xs �
 map_agree f g [] h = refl
 map_agree f g (x ∷ xs) h =
     λ i. h x (is_in-cons x x xs ∙ ap (λ b. b || is_in x xs) ((Decides-eqb x x).1 refl)) i
-         ∷ map_agree f g xs (λ j e. h j (is_in-cons j x xs ∙ ap (λ b. (x == j) || b) e ∙ any (x == j))) i
+    ∷ map_agree f g xs (λ j e. h j (is_in-cons j x xs ∙ ap (λ b. (x == j) || b) e ∙ any (x == j))) i
   where
     any : (b : Bool) → (b || true) ≡ true
     any true = refl
@@ -73,10 +72,10 @@ module _ (graph : List (List ℕ)) where
   same_ranks : (old new : List Mark) → AreRanked graph old → ((i : ℕ) → is_ranked (mark_at new i) ≡ true → mark_at new i ≡ mark_at old i)
       → ((i : ℕ) → is_ranked (mark_at old i) ≡ true → mark_at new i ≡ mark_at old i) → tally is_ranked new ≡ tally is_ranked old → AreRanked graph new
   same_ranks old new a back forth count = record {
-      below = λ i j r l. ap is_ranked (forth j (a.below i j (was i r) l)) ∙ a.below i j (was i r) l;
-      rank = λ i r. ap rank_of (back i r) ∙ a.rank i (was i r) ∙ ap (λ ns. greatest ns + 1) (sym (map_agree (rank_at new) (rank_at old) (targets graph i) (λ j l. ap rank_of (forth j (a.below i j (was i r) l)))));
-      few = λ i r. let old_few = a.few i (was i r) in omega (arith, old_few, ap rank_of (back i r), count)
-    }
+    below = λ i j r l. ap is_ranked (forth j (a.below i j (was i r) l)) ∙ a.below i j (was i r) l;
+    rank = λ i r. ap rank_of (back i r) ∙ a.rank i (was i r) ∙ ap (λ ns. greatest ns + 1) (sym (map_agree (rank_at new) (rank_at old) (targets graph i) (λ j l. ap rank_of (forth j (a.below i j (was i r) l)))));
+    few = λ i r. let old_few = a.few i (was i r) in omega (arith, old_few, ap rank_of (back i r), count);
+  }
     where
       was : (i : ℕ) → is_ranked (mark_at new i) ≡ true → is_ranked (mark_at old i) ≡ true
       was i r = ap is_ranked (sym (back i r)) ∙ r
@@ -98,12 +97,12 @@ module _ (graph : List (List ℕ)) where
 
       pub visiting_none : AreRanked graph old → Visiting (set old node Open) [] 0
       visiting_none a = record {
-          ranked = same_ranks old (set old node Open) a (λ i r. back i (cases_eq i node) r) (λ i r. forth i (cases_eq i node) r)
-              (let t = tally-set is_ranked old node Open h in omega (arith, t, ap (λ m. ones (is_ranked m)) new));
-          follows = record { ranked = λ i r. refl; open_as_before = λ i. refl; fewer = omega arith };
-          done = λ j e. absurd (true≢false (sym e ∙ is_in-none j));
-          is_top = refl
-        }
+        ranked = same_ranks old (set old node Open) a (λ i r. back i (cases_eq i node) r) (λ i r. forth i (cases_eq i node) r)
+            (let t = tally-set is_ranked old node Open h in omega (arith, t, ap (λ m. ones (is_ranked m)) new));
+        follows = record { ranked = λ i r. refl; open_as_before = λ i. refl; fewer = omega arith };
+        done = λ j e. absurd (true≢false (sym e ∙ is_in-none j));
+        is_top = refl;
+      }
         where
           back : (i : ℕ) → (i ≡ node) ⊎ (i ≡ node → ⊥) → is_ranked (mark_at (set old node Open) i) ≡ true → mark_at (set old node Open) i ≡ mark_at old i
           back i (inl e) r = clash (is_ranked (mark_at (set old node Open) i)) (ap (λ k. is_ranked (mark_at (set old node Open) k)) e ∙ ap is_ranked opened) r
@@ -132,18 +131,18 @@ module _ (graph : List (List ℕ)) where
 
       pub visiting_more : (now next : List Mark) (followed : List ℕ) (top t rank : ℕ) → Visiting now followed top → Visited graph t rank now next → Visiting next (followed ++ t ∷ []) (max top rank)
       visiting_more now next followed top t rank v n = record {
-          ranked = n.ranked;
-          follows = record {
-              ranked = λ i r. let kept = v.follows.ranked i r in n.follows.ranked i (ap is_ranked kept ∙ r) ∙ kept;
-              open_as_before = λ i. n.follows.open_as_before i ∙ v.follows.open_as_before i;
-              fewer = let a = n.follows.fewer in let b = v.follows.fewer in omega (arith, a, b)
-            };
-          done = λ j e. in_more j t followed (λ f. ap is_ranked (n.follows.ranked j (v.done j f)) ∙ v.done j f) (λ f. ap (λ k. is_ranked (mark_at next k)) f ∙ ap is_ranked n.rank_is) e;
-          is_top =
-              let same : map (rank_at next) followed ≡ map (rank_at now) followed = map_agree (rank_at next) (rank_at now) followed (λ j f. ap rank_of (n.follows.ranked j (v.done j f))) in
-              (λ i. max ((v.is_top ∙ ap greatest (sym same)) i) (sym (ap rank_of n.rank_is) i))
-              ∙ sym (greatest-more (map (rank_at next) followed) (rank_at next t)) ∙ ap greatest (sym (map-append (rank_at next) followed (t ∷ [])))
-        }
+        ranked = n.ranked;
+        follows = record {
+          ranked = λ i r. let kept = v.follows.ranked i r in n.follows.ranked i (ap is_ranked kept ∙ r) ∙ kept;
+          open_as_before = λ i. n.follows.open_as_before i ∙ v.follows.open_as_before i;
+          fewer = let a = n.follows.fewer in let b = v.follows.fewer in omega (arith, a, b);
+        };
+        done = λ j e. in_more j t followed (λ f. ap is_ranked (n.follows.ranked j (v.done j f)) ∙ v.done j f) (λ f. ap (λ k. is_ranked (mark_at next k)) f ∙ ap is_ranked n.rank_is) e;
+        is_top =
+            let same : map (rank_at next) followed ≡ map (rank_at now) followed = map_agree (rank_at next) (rank_at now) followed (λ j f. ap rank_of (n.follows.ranked j (v.done j f))) in
+            (λ i. max ((v.is_top ∙ ap greatest (sym same)) i) (sym (ap rank_of n.rank_is) i))
+            ∙ sym (greatest-more (map (rank_at next) followed) (rank_at next t)) ∙ ap greatest (sym (map-append (rank_at next) followed (t ∷ [])));
+      }
 
       pub top_few : (now : List Mark) (followed : List ℕ) (top : ℕ) → Visiting now followed top → top ≤ tally is_ranked now
       top_few now followed top v =
@@ -209,28 +208,28 @@ module _ (graph : List (List ℕ)) where
 
         pub visited : Visited graph node (top + 1) old (set now node (Ranked (top + 1)))
         visited = record {
-            rank_is = here;
-            ranked = record {
-                below = λ i j r l. let t = targets_ranked i j (cases_eq i node) r l in ap is_ranked (still j t) ∙ t;
-                rank = λ i r. rank_final i (cases_eq i node) r;
-                few = λ i r. few_final i (cases_eq i node) r
-              };
-            follows = record {
-                ranked = λ i r. kept i (cases_eq i node) r;
-                open_as_before = λ i. as_before i (cases_eq i node);
-                fewer =
-                    let t = tally-set is_new now node (Ranked (top + 1)) within in
-                    let f = visiting_fewer now (targets graph node) top v in
-                    omega (arith, t, f, ap ones (open_old (mark_at now node) open_now))
-              }
-          }
+          rank_is = here;
+          ranked = record {
+            below = λ i j r l. let t = targets_ranked i j (cases_eq i node) r l in ap is_ranked (still j t) ∙ t;
+            rank = λ i r. rank_final i (cases_eq i node) r;
+            few = λ i r. few_final i (cases_eq i node) r;
+          };
+          follows = record {
+            ranked = λ i r. kept i (cases_eq i node) r;
+            open_as_before = λ i. as_before i (cases_eq i node);
+            fewer =
+                let t = tally-set is_new now node (Ranked (top + 1)) within in
+                let f = visiting_fewer now (targets graph node) top v in
+                omega (arith, t, f, ap ones (open_old (mark_at now node) open_now));
+          };
+        }
 
     pub visited_already : (rank : ℕ) → mark_at old node ≡ Ranked rank → AreRanked graph old → Visited graph node rank old old
     visited_already rank e a = record {
-        rank_is = e;
-        ranked = a;
-        follows = record { ranked = λ i r. refl; open_as_before = λ i. refl; fewer = omega arith }
-      }
+      rank_is = e;
+      ranked = a;
+      follows = record { ranked = λ i r. refl; open_as_before = λ i. refl; fewer = omega arith };
+    }
 
 all_new : (n i : ℕ) → mark_at (replicate n New) i ≡ New
 all_new zero i = refl
@@ -239,26 +238,26 @@ all_new (suc n) (suc i) = all_new n i
 
 pub none_ranked : (graph : List (List ℕ)) (n : ℕ) → n ≡ length graph → RankedBelow graph (replicate n New) 0
 none_ranked graph n is = record {
-    sized = length-replicate n New ∙ is;
-    ranked = record {
-        below = λ i j r l. absurd (true≢false (sym r ∙ ap is_ranked (all_new n i)));
-        rank = λ i r. absurd (true≢false (sym r ∙ ap is_ranked (all_new n i)));
-        few = λ i r. absurd (true≢false (sym r ∙ ap is_ranked (all_new n i)))
-      };
-    closed = λ i. ap is_open (all_new n i);
-    done = λ i h. absurd (omega arith)
-  }
+  sized = length-replicate n New ∙ is;
+  ranked = record {
+    below = λ i j r l. absurd (true≢false (sym r ∙ ap is_ranked (all_new n i)));
+    rank = λ i r. absurd (true≢false (sym r ∙ ap is_ranked (all_new n i)));
+    few = λ i r. absurd (true≢false (sym r ∙ ap is_ranked (all_new n i)));
+  };
+  closed = λ i. ap is_open (all_new n i);
+  done = λ i h. absurd (omega arith);
+}
 
 pub none_open : (graph : List (List ℕ)) (marks : List Mark) (below node : ℕ) → RankedBelow graph marks below → OpenLead graph marks node
 none_open graph marks below node r i e = clash (is_open (mark_at marks i)) (r.closed i) e
 
 pub one_ranked : (graph : List (List ℕ)) (marks new : List Mark) (node rank : ℕ) → RankedBelow graph marks node → length new ≡ length marks → Visited graph node rank marks new → RankedBelow graph new (node + 1)
 one_ranked graph marks new node rank r same v = record {
-    sized = same ∙ r.sized;
-    ranked = v.ranked;
-    closed = λ i. v.follows.open_as_before i ∙ r.closed i;
-    done = λ i h. at i (cases_eq i node) h
-  }
+  sized = same ∙ r.sized;
+  ranked = v.ranked;
+  closed = λ i. v.follows.open_as_before i ∙ r.closed i;
+  done = λ i h. at i (cases_eq i node) h;
+}
   where
     at : (i : ℕ) → (i ≡ node) ⊎ (i ≡ node → ⊥) → i < node + 1 → is_ranked (mark_at new i) ≡ true
     at i (inl e) h = ap (λ k. is_ranked (mark_at new k)) e ∙ ap is_ranked v.rank_is
@@ -271,16 +270,16 @@ rank_in_list (m ∷ marks) (suc i) = rank_in_list marks i
 
 pub all_ranked : (graph : List (List ℕ)) (marks : List Mark) (ranks : List ℕ) → RankedBelow graph marks (length graph) → ranks ≡ map rank_of marks → IsRankList graph ranks
 all_ranked graph marks ranks r is = record {
-    sized = ap length is ∙ length-map marks rank_of ∙ r.sized;
-    rank = λ i h.
-        at i ∙ r.ranked.rank i (r.done i h) ∙ ap (λ ns. greatest ns + 1) (map_agree (rank_at marks) (λ j. get_or ranks j 0) (targets graph i) (λ j l. sym (at j)));
-    few = λ i h.
-        let is = at i in
-        let few = r.ranked.few i (r.done i h) in
-        let all = tally_few is_ranked marks in
-        let sized = r.sized in
-        omega (arith, is, few, all, sized)
-  }
+  sized = ap length is ∙ length-map marks rank_of ∙ r.sized;
+  rank = λ i h.
+      at i ∙ r.ranked.rank i (r.done i h) ∙ ap (λ ns. greatest ns + 1) (map_agree (rank_at marks) (λ j. get_or ranks j 0) (targets graph i) (λ j l. sym (at j)));
+  few = λ i h.
+      let is = at i in
+      let few = r.ranked.few i (r.done i h) in
+      let all = tally_few is_ranked marks in
+      let sized = r.sized in
+      omega (arith, is, few, all, sized);
+}
   where
     at : (i : ℕ) → get_or ranks i 0 ≡ rank_at marks i
     at i = ap (λ l. get_or l i 0) is ∙ rank_in_list marks i

@@ -1,8 +1,8 @@
 -- Which names stand on which, the rules on a cycle, and ranks of names.
-use Rattle.std.specs.Prelude.{ℕ, ◌≡◌, ◌+◌, ◌⊎◌, Bool, true, cond, get_or, Option, Some, None, option_map, zero, suc, length, List, [], ◌∷◌, map}
+use Rattle.std.specs.Prelude.{ℕ, ◌≡◌, ◌+◌, ◌⊎◌, Bool, true, cond, Option, Some, None, option_map, zero, suc, length, List, [], ◌∷◌, map}
 use Rattle.std.specs.List.{flat_map, filter_map}
 use Rattle.std.specs.Ordering.{is_eq}
-use Rattle.ordered_lists.specs.Canon.{canon, has}
+use Rattle.ordered_lists.specs.Canon.{has}
 use Rattle.ev_term.specs.declared.atoms.NameArity.{NameArity}
 use Rattle.rule_ast.specs.Trees.{PlainRule}
 use Rattle.rule_check.specs.Names.{name_cmp, head_name, head_names, body_names}

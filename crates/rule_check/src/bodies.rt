@@ -12,7 +12,11 @@ use std::alloc::AllocError;
 
 // Puts the numbers of the pattern's names behind the nodes.
 #[tactic(auto, using(crate::proofs::Placing::placings))]
-pub(crate) fn push_nodes(nodes: &mut Vec<usize>, heads: &[NameArity], pattern: &Pattern) -> Result<(), AllocError>
+pub(crate) fn push_nodes(
+    nodes: &mut Vec<usize>,
+    heads: &[NameArity],
+    pattern: &Pattern,
+) -> Result<(), AllocError>
     requires { Rising name_cmp heads.now }
     ensures { OnOk result (nodes.new.items ≡ nodes.old.items ++ places heads.now (body_names (plain_pattern pattern.now))) }
 {
@@ -34,7 +38,11 @@ pub(crate) fn push_nodes(nodes: &mut Vec<usize>, heads: &[NameArity], pattern: &
         Pattern::Where(of, _) => push_nodes(nodes, heads, of),
         Pattern::Exact(of, _) => push_nodes(nodes, heads, of),
         Pattern::Within(of, _) => push_nodes(nodes, heads, of),
-        Pattern::Not { inner, before, after } => {
+        Pattern::Not {
+            inner,
+            before,
+            after,
+        } => {
             push_nodes(nodes, heads, inner)?;
             push_nodes(nodes, heads, before)?;
             push_nodes(nodes, heads, after)

@@ -13,7 +13,10 @@ use rule_ast::Statement;
 use std::alloc::{AllocError, Global};
 
 // The names that head rules.
-pub(crate) fn head_names(alloc: Global, statements: &[Statement]) -> Result<Vec<Ordered>, AllocError>
+pub(crate) fn head_names(
+    alloc: Global,
+    statements: &[Statement],
+) -> Result<Vec<Ordered>, AllocError>
     requires { IsShaped (map plain_statement statements.now) }
     ensures { IfOk result (λ v. v.items ≡ head_names (rules_of (map plain_statement statements.now))) }
 {
@@ -40,7 +43,10 @@ fn push_names(names: &mut Vec<Ordered>, more: &[NameArity]) -> Result<(), AllocE
 }
 
 // The names of the `show` statements.
-pub(crate) fn shown_names(alloc: Global, statements: &[Statement]) -> Result<Vec<Ordered>, AllocError>
+pub(crate) fn shown_names(
+    alloc: Global,
+    statements: &[Statement],
+) -> Result<Vec<Ordered>, AllocError>
     ensures { IfOk result (λ v. v.items ≡ shown_names (map plain_statement statements.now)) }
 {
     let mut names = Vec::new(alloc);

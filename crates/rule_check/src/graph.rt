@@ -155,7 +155,12 @@ fn see_all(graph: &[Targets], starts: &[usize], seen: &mut [bool])
 }
 
 // Whether one of these nodes reaches the node.
-pub(crate) fn do_reach(alloc: Global, graph: &[Targets], starts: &[usize], node: usize) -> Result<bool, AllocError>
+pub(crate) fn do_reach(
+    alloc: Global,
+    graph: &[Targets],
+    starts: &[usize],
+    node: usize,
+) -> Result<bool, AllocError>
     requires graph { IsGraph graph.now }
     requires starts { (i : ℕ) → is_in i starts.now ≡ true → i < length graph.now }
     requires in_range { node < length graph.now }

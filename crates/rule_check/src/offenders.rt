@@ -33,7 +33,11 @@ pub(crate) fn where_offender(pattern: &Pattern) -> Option<Slot>
         }
         Pattern::Exact(of, _) => where_offender(of),
         Pattern::Within(of, _) => where_offender(of),
-        Pattern::Not { inner, before, after } => {
+        Pattern::Not {
+            inner,
+            before,
+            after,
+        } => {
             let in_limits = where_offender(before).or(where_offender(after));
             where_offender(inner).or(in_limits)
         }
@@ -65,7 +69,11 @@ pub(crate) fn or_offender(pattern: &Pattern, may: &Option<Slots>) -> Option<Slot
         Pattern::Where(of, _) => or_offender(of, may),
         Pattern::Exact(of, _) => or_offender(of, may),
         Pattern::Within(of, _) => or_offender(of, may),
-        Pattern::Not { inner, before, after } => {
+        Pattern::Not {
+            inner,
+            before,
+            after,
+        } => {
             let in_limits = or_offender(before, may).or(or_offender(after, may));
             or_offender(inner, &None).or(in_limits)
         }
@@ -84,7 +92,11 @@ pub(crate) fn not_offender(pattern: &Pattern, may: &Option<Slots>) -> Option<Slo
         Pattern::Where(of, _) => not_offender(of, may),
         Pattern::Exact(of, _) => not_offender(of, may),
         Pattern::Within(of, _) => not_offender(of, may),
-        Pattern::Not { inner, before, after } => {
+        Pattern::Not {
+            inner,
+            before,
+            after,
+        } => {
             let limits = Some(vars_of(before).union(&vars_of(after)));
             let in_limits = not_offender(before, may).or(not_offender(after, may));
             not_offender(inner, &limits).or(in_limits)

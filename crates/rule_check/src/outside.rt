@@ -48,9 +48,15 @@ pub(crate) fn outside_condition(cond: &Cond, may: &Option<Slots>) -> Option<Slot
 {
     match cond {
         Cond::Value(pat) => outside_argument(pat, may),
-        Cond::Calc(_, left, right) => outside_condition(left, may).or(outside_condition(right, may)),
-        Cond::Compare(_, left, right) => outside_condition(left, may).or(outside_condition(right, may)),
-        Cond::AndAlso(left, right) => outside_condition(left, may).or(outside_condition(right, may)),
+        Cond::Calc(_, left, right) => outside_condition(left, may).or(outside_condition(
+            right, may,
+        )),
+        Cond::Compare(_, left, right) => outside_condition(left, may).or(outside_condition(
+            right, may,
+        )),
+        Cond::AndAlso(left, right) => outside_condition(left, may).or(outside_condition(
+            right, may,
+        )),
         Cond::OrElse(left, right) => outside_condition(left, may).or(outside_condition(right, may)),
         Cond::Not(of) => outside_condition(of, may),
     }

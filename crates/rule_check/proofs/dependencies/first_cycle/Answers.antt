@@ -1,4 +1,4 @@
-use Rattle.std.proofs.Common.{arith, true, ◌≡◌, ◌∙◌, ap, sym, subst}
+use Rattle.std.proofs.Common.{arith, ◌∙◌, ap, sym, subst}
 use Rattle.ordered_lists.specs.Canon.{has}
 use Rattle.rule_ast.specs.Plain.{plain_rule, plain_statement}
 use Rattle.rule_check.specs.Names.{name_cmp, head_name, head_names}
@@ -25,16 +25,16 @@ is_on_cycle-requires-clause-graph c = subst IsGraph (sym c.requires.graph) (grap
 pub returns-then-branch : goal.returns-then-branch
 returns-then-branch c =
     cycle_at (rules_in c.args.statements.now) _ _ c.loop-statement.number (plain_rule c.in-Rule.rule)
-        (rule_among c.args.statements.now c.loop-statement.statement-index c.statement-item.result c.in-Rule.rule c.loop-statement-test.true c.statement-item.is c.in-Rule.is)
-        c.loop-statement.invariant
-        ((c.in_ok-is_on_cycle-in-Rule.ensures (rules_in c.args.statements.now) c.requires.known c.requires.graph).0 c.if-branch.true)
+    (rule_among c.args.statements.now c.loop-statement.statement-index c.statement-item.result c.in-Rule.rule c.loop-statement-test.true c.statement-item.is c.in-Rule.is)
+    c.loop-statement.invariant
+    ((c.in_ok-is_on_cycle-in-Rule.ensures (rules_in c.args.statements.now) c.requires.known c.requires.graph).0 c.if-branch.true)
 
 pub loop-statement-preserved : goal.loop-statement-preserved
 loop-statement-preserved c = elim c.match-statement.branch [
-    | in-Rule+in_ok-is_on_cycle-in-Rule+else-branch w ↦
-        let decides = w.in_ok-is_on_cycle-in-Rule.ensures (rules_in c.args.statements.now) c.requires.known c.requires.graph in
-        rw (w.number-is, a_rule c.args.statements.now c.loop-statement.statement-index c.statement-item.result c.loop-statement-test.true c.statement-item.is w.in-Rule.rule w.in-Rule.is)
-            (one_off _ _ _ _ c.loop-statement.invariant (λ h. true≢false (sym (decides.1 h) ∙ w.if-branch.false)))
-    | in-Show w ↦
-        rw (w.number-is, no_rule c.args.statements.now c.loop-statement.statement-index c.statement-item.result c.loop-statement-test.true c.statement-item.is w.in-Show.field-0.items (ap plain_statement w.in-Show.is)) c.loop-statement.invariant
-  ]
+  | in-Rule+in_ok-is_on_cycle-in-Rule+else-branch w ↦
+      let decides = w.in_ok-is_on_cycle-in-Rule.ensures (rules_in c.args.statements.now) c.requires.known c.requires.graph in
+      rw (w.number-is, a_rule c.args.statements.now c.loop-statement.statement-index c.statement-item.result c.loop-statement-test.true c.statement-item.is w.in-Rule.rule w.in-Rule.is)
+      (one_off _ _ _ _ c.loop-statement.invariant (λ h. true≢false (sym (decides.1 h) ∙ w.if-branch.false)))
+  | in-Show w ↦
+      rw (w.number-is, no_rule c.args.statements.now c.loop-statement.statement-index c.statement-item.result c.loop-statement-test.true c.statement-item.is w.in-Show.field-0.items (ap plain_statement w.in-Show.is)) c.loop-statement.invariant
+]

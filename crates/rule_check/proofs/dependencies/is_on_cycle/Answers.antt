@@ -23,9 +23,9 @@ returns c = λ rules are is.
     let items : c.deref.result.now ≡ places c.args.heads.now names = c.deref.ensures.value ∙ c.in_ok-push_nodes.ensures ∙ ap (λ l. l ++ places c.args.heads.now names) c.new-starts.ensures.items in
     let node = c.head_place-node.result in
     decided c.in_ok-do_reach.field-0
-        (λ e.
-            let (i, h, t) = c.in_ok-do_reach.ensures.found e in
-            cycle_found c.args.heads.now rules are (plain_rule c.args.rule.now) node c.head_place-node.ensures i (ap (is_in i) (sym items) ∙ h) (subst (λ g. Reaches (leads g) i node) is t))
-        (λ e.
-            cycle_missed c.args.heads.now rules are (plain_rule c.args.rule.now) node c.head_place-node.ensures
-                (λ i h t. c.in_ok-do_reach.ensures.missed e i (ap (is_in i) items ∙ h) (subst (λ g. Reaches (leads g) i node) (sym is) t)))
+    (λ e.
+    let (i, h, t) = c.in_ok-do_reach.ensures.found e in
+    cycle_found c.args.heads.now rules are (plain_rule c.args.rule.now) node c.head_place-node.ensures i (ap (is_in i) (sym items) ∙ h) (subst (λ g. Reaches (leads g) i node) is t))
+    (λ e.
+    cycle_missed c.args.heads.now rules are (plain_rule c.args.rule.now) node c.head_place-node.ensures
+    (λ i h t. c.in_ok-do_reach.ensures.missed e i (ap (is_in i) items ∙ h) (subst (λ g. Reaches (leads g) i node) (sym is) t)))

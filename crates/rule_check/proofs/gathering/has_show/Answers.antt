@@ -1,4 +1,4 @@
-use Rattle.std.proofs.Common.{arith, ap, sym, ◌∙◌}
+use Rattle.std.proofs.Common.{ap}
 use Rattle.rule_ast.specs.Plain.{plain_statement, plain_rule}
 use Rattle.rule_check.proofs.gathering.has_show.Goals as goal
 use Rattle.rule_check.proofs.Gathered.{none_shown, one_shown}

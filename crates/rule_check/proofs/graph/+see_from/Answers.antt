@@ -1,4 +1,4 @@
-use Rattle.std.proofs.Common.{arith, ◌≡◌, ◌<◌, Bool, length, length-set, sym, ap, ◌∙◌}
+use Rattle.std.proofs.Common.{arith, ◌≡◌, Bool, length, length-set}
 use Rattle.rule_check.specs.Graphs.{targets}
 use Rattle.rule_check.proofs.Seeing.{seeing_none, seeing_more, row_is, target_leads, take_target}
 use Rattle.rule_check.proofs.graph.+see_from.Goals as goal
@@ -20,4 +20,4 @@ loop-target-preserved t c =
     let row : c.as_slice-target-items.result.now ≡ targets c.args.graph.now c.args.node = row_is _ _ _ _ c.requires.in_range c.index-graph-node.is c.as_slice-target-items.ensures in
     let lead = target_leads c.args.graph.now c.args.node _ c.loop-target.target-index row c.loop-target-test.true in
     rw (take_target c.as_slice-target-items.result.now c.loop-target.target-index c.loop-target-test.true)
-        (seeing_more _ _ _ _ _ _ _ lead c.loop-target.invariant c.see_from.ensures)
+    (seeing_more _ _ _ _ _ _ _ lead c.loop-target.invariant c.see_from.ensures)

@@ -1,5 +1,5 @@
 use Rattle.std.proofs.Common.{take}
-use Rattle.rule_check.specs.Graphs.{unseen, targets}
+use Rattle.rule_check.specs.Graphs.{unseen}
 use Rattle.rule_check.proofs.Seeing.{Seeing}
 use Rattle.rule_check.proofs.graph.+see_from.Given as goal
 

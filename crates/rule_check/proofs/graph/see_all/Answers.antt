@@ -1,4 +1,4 @@
-use Rattle.std.proofs.Common.{arith, sym, ap, ◌∙◌, get_or}
+use Rattle.std.proofs.Common.{get_or}
 use Rattle.std.proofs.lemmas.List.{get_or_default}
 use Rattle.rule_check.proofs.Seeing.{in_at, take_target, seen_one}
 use Rattle.rule_check.proofs.graph.see_all.Goals as goal
@@ -12,4 +12,4 @@ see_from-requires-clause-in_range c =
 pub loop-start-preserved : goal.loop-start-preserved
 loop-start-preserved c =
     rw (take_target c.args.starts.now c.loop-start.start-index c.loop-start-test.true)
-        (seen_one _ _ _ _ _ c.loop-start.invariant c.see_from.auto.seen c.see_from.ensures)
+    (seen_one _ _ _ _ _ c.loop-start.invariant c.see_from.auto.seen c.see_from.ensures)

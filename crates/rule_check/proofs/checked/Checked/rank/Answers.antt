@@ -1,7 +1,6 @@
-use Rattle.std.proofs.Common.{◌≡◌, Some, None, ap, sym, subst, ◌∙◌}
+use Rattle.std.proofs.Common.{Some, None, ap, subst, ◌∙◌}
 use Rattle.rule_ast.specs.Plain.{plain_rules}
-use Rattle.ordered_lists.specs.Canon.{Rising}
-use Rattle.rule_check.specs.Names.{name_cmp, head_names, IsPlace}
+use Rattle.rule_check.specs.Names.{head_names, IsPlace}
 use Rattle.rule_check.specs.Cycles.{rank_of}
 use Rattle.rule_check.specs.Sound.{rules_of}
 use Rattle.rule_check.proofs.Ranking.{rising_heads, rank_read, rank_nowhere}

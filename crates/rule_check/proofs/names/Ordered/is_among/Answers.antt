@@ -1,6 +1,5 @@
 use Rattle.std.proofs.Common.{ap, ◌∙◌}
 use Rattle.ordered_lists.specs.Canon.{has}
-use Rattle.ev_term.specs.declared.atoms.NameArity.{NameArity}
 use Rattle.rule_check.specs.Names.{name_cmp}
 use Rattle.rule_check.proofs.Places.{among}
 use Rattle.rule_check.proofs.names.Ordered.is_among.Goals as goal
