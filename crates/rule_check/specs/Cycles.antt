@@ -1,5 +1,6 @@
 -- Which names stand on which, the rules on a cycle, and ranks of names.
-use Rattle.std.specs.Prelude.{ℕ, ◌≡◌, ◌+◌, ◌⊎◌, Bool, true, cond, Option, Some, None, option_map, zero, suc, length, List, [], ◌∷◌, map}
+use Rattle.std.specs.Prelude.{ℕ, ◌≡◌, ◌+◌, ◌≤◌, ◌⊎◌, Bool, true, false, cond, Option, Some, None, option_map, zero, suc, length, List, [], ◌∷◌, map}
+use Rattle.std.proofs.Common.{arith}
 use Rattle.std.specs.List.{flat_map, filter_map}
 use Rattle.std.specs.Ordering.{is_eq}
 use Rattle.ordered_lists.specs.Canon.{has}
@@ -41,6 +42,23 @@ rank_within (suc k) rules n = cond (has name_cmp n (head_names rules)) (greatest
 -- the rank of a name, where no rule is on a cycle
 unfoldable pub rank_of : List PlainRule → NameArity → ℕ
 rank_of rules n = rank_within (length rules) rules n
+
+greatest_most : (f : NameArity → ℕ) (k : ℕ) → ((n : NameArity) → f n ≤ k) → (names : List NameArity) → greatest (map f names) ≤ k
+greatest_most f k h [] = omega arith
+greatest_most f k h (n ∷ names) = let first = h n in let more = greatest_most f k h names in omega (arith, first, more)
+
+rank_within_most : (rules : List PlainRule) (k : ℕ) (n : NameArity) → rank_within k rules n ≤ k
+rank_within_most rules zero n = omega arith
+rank_within_most rules (suc k) n = at (has name_cmp n (head_names rules)) (greatest_most (rank_within k rules) k (rank_within_most rules k) (below rules n))
+  where
+    at : (b : Bool) → greatest (map (rank_within k rules) (below rules n)) ≤ k → cond b (greatest (map (rank_within k rules) (below rules n)) + 1) 0 ≤ suc k
+    at true h = omega (arith, h)
+    at false h = omega arith
+
+-- no rank is more than the number of rules
+pub rank_most : (rules : List PlainRule) (n : NameArity) → rank_of rules n ≤ length rules
+unfolding rank_of
+rank_most rules n = rank_within_most rules (length rules) n
 
 -- ---- names by number
 

@@ -62,6 +62,7 @@ impl Checked {
         ensures same { result.now ≡ self.now }
         ensures shaped { IsShaped (plain_rules self.now) }
         ensures sound { IsSound (plain_rules self.now) }
+        ensures ranking { IsRanking (rules_of (plain_rules self.now)) (rank_of (rules_of (plain_rules self.now))) }
     {
         &self.rules
     }

@@ -12,7 +12,7 @@ ghost use Rattle.rule_check.specs.Names.{name_cmp, body_names, head_name, head_n
 ghost use Rattle.rule_check.specs.Sound.{rules_of};
 
 use crate::bodies::push_nodes;
-use crate::graph::{Targets, do_reach};
+use crate::graph::{Targets, any_reaches};
 use crate::names::place_of;
 use ev_term::NameArity;
 use rule_ast::{Rule, Statement};
@@ -93,7 +93,7 @@ fn is_on_cycle(
     let mut starts = Vec::new(alloc);
     push_nodes(&mut starts, heads, &rule.body)?;
     let node = head_place(heads, rule);
-    Ok(do_reach(alloc, graph, &starts, node)?)
+    Ok(any_reaches(alloc, graph, &starts, node)?)
 }
 
 // The number of the first rule that is on a cycle.

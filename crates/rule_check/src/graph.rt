@@ -155,7 +155,7 @@ fn see_all(graph: &[Targets], starts: &[usize], seen: &mut [bool])
 }
 
 // Whether one of these nodes reaches the node.
-pub(crate) fn do_reach(
+pub(crate) fn any_reaches(
     alloc: Global,
     graph: &[Targets],
     starts: &[usize],

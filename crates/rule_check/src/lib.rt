@@ -17,3 +17,6 @@ mod variables;
 pub use checked::Checked;
 pub use checking::check;
 pub use faults::CheckFault;
+
+#[cfg(test)]
+mod tests;

@@ -1,7 +1,7 @@
 use Rattle.std.proofs.Common.{arith, sym, ap, ◌∙◌, refl, ◌≡◌, length, get_or, false, rules}
 use Rattle.std.proofs.lemmas.List.{get_or_default}
 use Rattle.rule_check.proofs.Seeing.{seen_none, reached, written_back}
-use Rattle.rule_check.proofs.graph.do_reach.Goals as goal
+use Rattle.rule_check.proofs.graph.any_reaches.Goals as goal
 
 pub see_all-requires-clause-fresh : goal.see_all-requires-clause-fresh
 see_all-requires-clause-fresh c = rw (c.deref_mut.ensures.value, c.in_ok-seen.ensures.items_if_clones_equal (search rules)) (seen_none _ _ refl)
