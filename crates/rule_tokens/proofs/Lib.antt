@@ -9,3 +9,4 @@ pub mod WrittenTexts
 pub mod WrittenSigns
 pub mod WrittenTokens
 pub mod RoundTrip
+pub mod ReadLexemes

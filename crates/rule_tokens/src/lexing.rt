@@ -1,9 +1,11 @@
 //! All tokens of a text.
 
-ghost use Rattle.std.specs.Prelude.{◌≡◌, ◌<◌, ◌≤◌, ◌-◌, ◌^◌, ℕ, Bool, List, [], length, IfOk, IsCharBoundary, slice_range};
+ghost use Rattle.std.specs.Prelude.{◌≡◌, ◌<◌, ◌≤◌, ◌-◌, ◌^◌, ℕ, Bool, true, List, [], length, IfOk, IsCharBoundary, slice_range};
+ghost use Rattle.std.specs.List.{list_all};
 ghost use Rattle.rule_lexer.specs.Places.{TokenAt};
 ghost use Rattle.rule_tokens.specs.declared.lexemes.Lexeme.{Lexeme};
 ghost use Rattle.rule_tokens.specs.Lexing.{lexeme_of, Lexing};
+ghost use Rattle.rule_tokens.specs.Writing.{is_proper};
 
 use crate::lexemes::{Lexeme, Natural};
 use crate::tables::{mark_lexeme, word_lexeme};
@@ -91,4 +93,9 @@ pub fn lex(alloc: Global, text: &str) -> Result<Lexed, AllocError>
 pub fn one_lexing()
     ensures same { (text : List ℕ) (at : ℕ) (ts us : List Lexeme) (ps qs : List ℕ) (m n : ℕ) (v w : Bool) → Lexing text at ts ps m v → Lexing text at us qs n w → (ts ≡ us) × (ps ≡ qs) × (m ≡ n) × (v ≡ w) }
     ensures few { (text : List ℕ) (at : ℕ) (ts : List Lexeme) (ps : List ℕ) (end : ℕ) (whole : Bool) → Lexing text at ts ps end whole → length ts ≤ length text - at }
+{}
+
+/// Whatever is read can be written.
+pub fn lexemes_are_proper()
+    ensures { (text : List ℕ) (at : ℕ) (ts : List Lexeme) (places : List ℕ) (end : ℕ) (whole : Bool) → Lexing text at ts places end whole → list_all is_proper ts ≡ true }
 {}

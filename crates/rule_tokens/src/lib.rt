@@ -8,7 +8,7 @@ mod texts;
 mod writing;
 
 pub use lexemes::{Lexeme, Natural};
-pub use lexing::{Lexed, lex, one_lexing};
+pub use lexing::{Lexed, lex, lexemes_are_proper, one_lexing};
 pub use writing::written_is_read;
 
 #[cfg(test)]
