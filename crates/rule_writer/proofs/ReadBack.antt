@@ -1,7 +1,9 @@
--- The canonical text of what a text says is read as its canonical tree.
-use Rattle.std.proofs.Common.{◌≡◌, ℕ, true, List, [], ◌∷◌, map, length, refl, ap, ◌∙◌, subst}
+-- The canonical text of what a text holds is read as its canonical tree.
+use Rattle.std.proofs.Common.{◌≡◌, ℕ, Bool, true, List, [], ◌∷◌, map, length, refl, sym, ap, ◌∙◌, subst}
+use Rattle.std.specs.List.{list_all}
+use Rattle.rule_ast.specs.Trees.{PlainStatement}
 use Rattle.rule_tokens.specs.Lexing.{Lexing}
-use Rattle.rule_tokens.specs.Writing.{Piece, written, Parted}
+use Rattle.rule_tokens.specs.Writing.{is_proper, Piece, written, Parted}
 use Rattle.rule_grammar.specs.Trees.{Statements}
 use Rattle.rule_grammar.specs.Marks.{Marked, Role.Binary, Role.Lists, nothing_counted}
 use Rattle.rule_grammar.specs.Tokens.{text, bare}
@@ -11,7 +13,7 @@ use Rattle.rule_tokens.specs.declared.lexemes.Lexeme.{Lexeme}
 use Rattle.rule_tokens.specs.declared.lexemes.Lexeme.TheVariants.{Arrow, Show, End}
 use Rattle.rule_writer.specs.Forms.{text_form}
 use Rattle.rule_writer.specs.Canonical.{by_token, piece_of, canonical}
-use Rattle.rule_writer.specs.RoundTrip.{ReadsBack}
+use Rattle.rule_parser.specs.Answers.{Holds}
 use Rattle.rule_writer.proofs.Fewer.{IsProper}
 use Rattle.rule_writer.proofs.Parting.{text_parted}
 use Rattle.rule_writer.proofs.RoundTrips.{says_again, within_again, proper_again}
@@ -31,15 +33,30 @@ pieces_bare : (ms : List Marked) → map (λ p. p.lexeme) (map piece_of ms) ≡ 
 pieces_bare [] = refl
 pieces_bare (m ∷ ms) = ap (λ xs. (piece_of m).lexeme ∷ xs) (pieces_bare ms) ∙ ap (λ x. x ∷ bare ms) (lexeme_of_piece m)
 
-pub read_back : ((ps : List Piece) → Parted ps ≡ true → (places : List ℕ) × Lexing (written ps) 0 (map (λ p. p.lexeme) ps) places (length (written ps)) true)
-    → (ss : Statements) → IsProper (text ss) → IsWithin nothing_counted (text ss) → ReadsBack (text_value ss)
-read_back lexed ss p w =
+-- all that pieces write is read
+abbrev IsLexed : Type 0
+IsLexed = (ps : List Piece) → Parted ps ≡ true → (places : List ℕ) × Lexing (written ps) 0 (map (λ p. p.lexeme) ps) places (length (written ps)) true
+
+-- all that is read can be written
+abbrev AreProper : Type 0
+AreProper = (bytes : List ℕ) (at : ℕ) (ts : List Lexeme) (places : List ℕ) (end : ℕ) (whole : Bool) → Lexing bytes at ts places end whole → list_all is_proper ts ≡ true
+
+tree_again : IsLexed → (ss : Statements) → IsProper (text ss) → IsWithin nothing_counted (text ss) → Holds (canonical (text_value ss)) (text_value ss)
+tree_again lexed ss p w =
     let statements = text_value ss in
-    let tokens = text (text_form statements) in
-    let here = lexed (map piece_of tokens) (text_parted (text_form statements) (proper_again ss p)) in
+    let tree = text_form statements in
+    let here = lexed (map piece_of (text tree)) (text_parted tree (proper_again ss p)) in
     record {
+      lexemes = bare (text tree);
       places = here.0;
-      lexes = subst (λ ts. Lexing (canonical statements) 0 ts here.0 (length (canonical statements)) true) (pieces_bare tokens) here.1;
+      end = length (canonical statements);
+      lexing = subst (λ ts. Lexing (canonical statements) 0 ts here.0 (length (canonical statements)) true) (pieces_bare (text tree)) here.1;
+      tree = tree;
       reads = record { tokens = refl; within = within_again ss w };
       says = says_again ss;
     }
+
+pub held_again : IsLexed → AreProper → (bytes : List ℕ) (rules : List PlainStatement) → Holds bytes rules → Holds (canonical rules) rules
+held_again lexed proper bytes rules h =
+    let p : IsProper (text h.tree) = subst (λ ts. list_all is_proper ts ≡ true) (sym h.reads.tokens) (proper bytes 0 h.lexemes h.places h.end true h.lexing) in
+    subst (λ rs. Holds (canonical rs) rs) h.says (tree_again lexed h.tree p h.reads.within)

@@ -9,7 +9,7 @@ mod statements;
 mod terms;
 mod texts;
 
-pub use round_trip::rules_are_read_back;
+pub use round_trip::rule_files_are_read_back;
 pub use statements::rules_text;
 
 #[cfg(test)]

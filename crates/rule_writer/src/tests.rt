@@ -1,7 +1,7 @@
 // The happy path.
 ghost use Rattle.std.specs.Prelude.{◌<◌};
 
-use crate::{rules_are_read_back, rules_text};
+use crate::{rule_files_are_read_back, rules_text};
 use ev_term::{Name, NameArity, Op, Pat, PatAtom, Shared, Slot};
 use rule_ast::{Calc, Cmp, Cond, Pattern, Rule, RuleSet, Statement};
 use std::alloc::{AllocError, Global};
@@ -126,7 +126,7 @@ fn rules(alloc: Global) -> Result<RuleSet, AllocError> {
 
 #[test]
 fn rules_as_text(rt: HostRuntime) -> Result<(), Fail> {
-    rules_are_read_back();
+    rule_files_are_read_back();
     let text = rules_text(rt.alloc(), &rules(rt.alloc())?)?;
     let lines = "ab(X) <- a(X) SEQ b(X).
 c <- (a).3.4 WITHIN 5 OR NOT(a).[b,c SEQ d] AND (b AND c).
