@@ -10,3 +10,4 @@ pub mod WrittenSigns
 pub mod WrittenTokens
 pub mod RoundTrip
 pub mod ReadLexemes
+pub mod Utf8

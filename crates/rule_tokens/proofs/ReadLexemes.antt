@@ -51,7 +51,7 @@ content_text (b ∷ bs) true h = let both = and_parts (is_escape b) (are_charact
 content_text (b ∷ bs) false h = let both = and_parts (is_character false b) (are_characters (b == 92) bs) h in content_step b bs (content_text bs) both.0 (b == 92) both.1
 
 -- the content of a text is that of its characters
-inside_content : (bs : List ℕ) (h : IsText bs) → text_content bs ≡ unescaped false h.inside
+pub inside_content : (bs : List ℕ) (h : IsText bs) → text_content bs ≡ unescaped false h.inside
 inside_content bs h = ap text_content h.whole ∙ ap (unescaped false) inner
   where
     inner : slice_range (34 ∷ h.inside ++ 34 ∷ []) 1 (length (34 ∷ h.inside ++ 34 ∷ []) - 1) ≡ h.inside

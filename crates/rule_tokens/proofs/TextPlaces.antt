@@ -7,6 +7,8 @@ use Rattle.rule_lexer.specs.declared.tokens.TokenKind.{TokenKind}
 use Rattle.rule_lexer.specs.declared.tokens.TokenKind.TheVariants.{Text}
 use Rattle.rule_lexer.specs.Spelling.{are_characters, IsText, IsToken}
 use Rattle.rule_lexer.specs.Places.{TokenAt}
+use Rattle.rule_tokens.specs.Lexing.{unescaped, text_content}
+use Rattle.rule_tokens.proofs.ReadLexemes.{inside_content}
 
 -- the text's quotes are two bytes, and between them are characters
 pub record TextAt (text : List ℕ) (from to : ℕ) : Type 0 where
@@ -15,6 +17,7 @@ pub record TextAt (text : List ℕ) (from to : ℕ) : Type 0 where
   pub first : IsCharBoundary text (from + 1)
   pub last : IsCharBoundary text (to - 1)
   pub characters : are_characters false (take (to - 1 - (from + 1)) (drop (from + 1) text)) ≡ true
+  pub content : text_content (slice_range text from to) ≡ unescaped false (take (to - 1 - (from + 1)) (drop (from + 1) text))
 
 last_of : (xs : List ℕ) (b : ℕ) → get_or (xs ++ b ∷ []) (length xs) 0 ≡ b
 last_of [] b = refl
@@ -27,6 +30,7 @@ text_at text from to inside u o w e h = record {
   first = IsCharBoundary-after_ascii text from u (omega (arith, two)) first;
   last = IsCharBoundary-before_ascii text (to - 1) (omega (arith, two)) last;
   characters = rw same h;
+  content = inside_content (slice_range text from to) (record { inside = inside; whole = e; characters = h }) ∙ ap (unescaped false) (sym same);
 }
   where
     size : to - from ≡ length inside + 2

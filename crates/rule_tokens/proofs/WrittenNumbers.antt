@@ -31,10 +31,13 @@ digits_begin (d ∷ ds) l a = (and_parts (is_ascii_digit d) (list_all is_ascii_d
 own : IsNumeralModel (λ ds. list_all is_ascii_digit ds ≡ true) (number_from 0)
 own = numerals_by_fold _ (search rules) number_from (search rules)
 
+pub decimal_digits : (n : ℕ) → n < 2 ^ 63 → list_all is_ascii_digit (decimal n) ≡ true
+decimal_digits n l = digits_decimal own n (omega arith)
+
 pub number_stands : (n : ℕ) (rest : List ℕ) → n < 2 ^ 63 → begins is_ascii_digit rest ≡ false → Stands (Number n) (decimal n) rest
 number_stands n rest l e =
     let small : n < 2 ^ 64 = omega arith in
-    let all : list_all is_ascii_digit (decimal n) ≡ true = digits_decimal own n small in
+    let all : list_all is_ascii_digit (decimal n) ≡ true = decimal_digits n l in
     digits_stand n (decimal n) rest (digits_begin (decimal n) (decimal_nonempty n small) all) all (digits_value-decimal own n small) (omega arith) e
 
 pub huge_stands : (rest : List ℕ) → begins is_ascii_digit rest ≡ false → Stands (Number (2 ^ 63)) (codes "9223372036854775808") rest

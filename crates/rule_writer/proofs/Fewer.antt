@@ -1,7 +1,7 @@
 -- What is left of a tree without its redundant brackets has the tree's tokens, but for some brackets and for numbers in their shortest form.
 use Rattle.std.proofs.Common.{◌≡◌, ℕ, zero, suc, ◌+◌, ◌^◌, ◌≤◌, ◌<◌, pos, negsuc, ◌-ℤ◌, Bool, true, false, cond, ◌&&◌, nat_lt, ◌==◌, List, [], ◌∷◌, length, Option, Some, None, refl, sym, ap, ◌∙◌, subst, arith, add-one}
 use Rattle.std.specs.List.{list_all}
-use Rattle.std.proofs.lemmas.Bool.{eqb-true, ltb-true, and_parts}
+use Rattle.std.proofs.lemmas.Bool.{eqb-true, ltb-true, and_parts, and_from}
 use Rattle.std.proofs.lemmas.Bool.Decides.{nat_tests}
 use Rattle.std.proofs.lemmas.Int.{ints}
 use Rattle.rule_tokens.specs.declared.lexemes.Lexeme.{Lexeme}
@@ -83,22 +83,27 @@ counts (NoClose f) g = counts f g
 counts {ms = m ∷ ms} (Zero r i f) g = ap (λ c. count_all c ms) (number_counts g r 0) ∙ counts f (count g (r, t.Minus))
 counts (Lowest r n i e f) g = counts f (count g (r, t.Minus))
 
-abbrev pub IsProper : List Marked → Type 0
-IsProper ms = list_all is_proper (bare ms) ≡ true
-
 also : (b c d : Bool) → (c ≡ true → d ≡ true) → (b && c) ≡ true → (b && d) ≡ true
 also true c d f h = f h
 also false c d f h = h
 
-pub proper : {many : Bool} {ms ns : List Marked} → Fewer many ms ns → IsProper ns → IsProper ms
-proper Neither h = h
-proper (Same r x i f) h = also (is_proper x) _ _ (proper f) h
-proper (Begins n x m f) h = also (is_proper x) _ _ (proper f) h
-proper (Nested d e x le f) h = also (is_proper x) _ _ (proper f) h
-proper (NoOpen d f) h = proper f h
-proper (NoClose f) h = proper f h
-proper (Zero r i f) h = proper f h
-proper (Lowest r n i e f) h = proper f (and_parts (nat_lt n (2 ^ 63)) _ h).1
+-- every token passes a test
+abbrev pub AllTokens : (Lexeme → Bool) → List Marked → Type 0
+AllTokens p ms = list_all p (bare ms) ≡ true
+
+pub kept : (p : Lexeme → Bool) → p t.Huge ≡ true → {many : Bool} {ms ns : List Marked} → Fewer many ms ns → AllTokens p ns → AllTokens p ms
+kept p u Neither h = h
+kept p u (Same r x i f) h = also (p x) _ _ (kept p u f) h
+kept p u (Begins n x m f) h = also (p x) _ _ (kept p u f) h
+kept p u (Nested d e x le f) h = also (p x) _ _ (kept p u f) h
+kept p u (NoOpen d f) h = kept p u f (and_parts (p t.Open) _ h).1
+kept p u (NoClose f) h = kept p u f (and_parts (p t.Close) _ h).1
+kept p u (Zero r i f) h = also (p (t.Number 0)) _ _ (kept p u f) (and_parts (p t.Minus) _ h).1
+kept p u (Lowest r n i e f) h =
+    also (p t.Minus) _ _ (λ g. and_from _ _ u (kept p u f (and_parts (p (t.Number n)) _ g).1)) h
+
+abbrev pub IsProper : List Marked → Type 0
+IsProper ms = AllTokens is_proper ms
 
 -- no statement begins among the tokens
 abbrev pub IsInner : List Marked → Type 0

@@ -1,6 +1,8 @@
 -- The canonical text of what a text holds is read as its canonical tree.
 use Rattle.std.proofs.Common.{◌≡◌, ℕ, Bool, true, List, [], ◌∷◌, map, length, refl, sym, ap, ◌∙◌, subst}
+use Rattle.std.specs.Prelude.{IsUtf8}
 use Rattle.std.specs.List.{list_all}
+use Rattle.rule_tokens.proofs.Utf8.{holds_utf8, lexed_utf8, written_utf8}
 use Rattle.rule_ast.specs.Trees.{PlainStatement}
 use Rattle.rule_tokens.specs.Lexing.{Lexing}
 use Rattle.rule_tokens.specs.Writing.{is_proper, Piece, written, Parted}
@@ -14,9 +16,9 @@ use Rattle.rule_tokens.specs.declared.lexemes.Lexeme.TheVariants.{Arrow, Show, E
 use Rattle.rule_writer.specs.Forms.{text_form}
 use Rattle.rule_writer.specs.Canonical.{by_token, piece_of, canonical}
 use Rattle.rule_parser.specs.Answers.{Holds}
-use Rattle.rule_writer.proofs.Fewer.{IsProper}
+use Rattle.rule_writer.proofs.Fewer.{AllTokens, IsProper}
 use Rattle.rule_writer.proofs.Parting.{text_parted}
-use Rattle.rule_writer.proofs.RoundTrips.{says_again, within_again, proper_again}
+use Rattle.rule_writer.proofs.RoundTrips.{says_again, within_again, kept_again}
 
 token_of : (x : Lexeme) → (by_token x).lexeme ≡ x
 token_of Arrow = refl
@@ -45,7 +47,7 @@ tree_again : IsLexed → (ss : Statements) → IsProper (text ss) → IsWithin n
 tree_again lexed ss p w =
     let statements = text_value ss in
     let tree = text_form statements in
-    let here = lexed (map piece_of (text tree)) (text_parted tree (proper_again ss p)) in
+    let here = lexed (map piece_of (text tree)) (text_parted tree (kept_again is_proper refl ss p)) in
     record {
       lexemes = bare (text tree);
       places = here.0;
@@ -56,7 +58,22 @@ tree_again lexed ss p w =
       says = says_again ss;
     }
 
+-- the tree of a text, with tokens that pass what all that are read pass
+passing : (p : Lexeme → Bool) (bytes : List ℕ) (rules : List PlainStatement) → ((ts : List Lexeme) (places : List ℕ) (end : ℕ) → Lexing bytes 0 ts places end true → list_all p ts ≡ true)
+    → (h : Holds bytes rules) → AllTokens p (text h.tree)
+passing p bytes rules all h = subst (λ ts. list_all p ts ≡ true) (sym h.reads.tokens) (all h.lexemes h.places h.end h.lexing)
+
+proper_tree : AreProper → (bytes : List ℕ) (rules : List PlainStatement) (h : Holds bytes rules) → IsProper (text h.tree)
+proper_tree proper bytes rules h = passing is_proper bytes rules (λ ts places end l. proper bytes 0 ts places end true l) h
+
 pub held_again : IsLexed → AreProper → (bytes : List ℕ) (rules : List PlainStatement) → Holds bytes rules → Holds (canonical rules) rules
-held_again lexed proper bytes rules h =
-    let p : IsProper (text h.tree) = subst (λ ts. list_all is_proper ts ≡ true) (sym h.reads.tokens) (proper bytes 0 h.lexemes h.places h.end true h.lexing) in
-    subst (λ rs. Holds (canonical rs) rs) h.says (tree_again lexed h.tree p h.reads.within)
+held_again lexed proper bytes rules h = subst (λ rs. Holds (canonical rs) rs) h.says (tree_again lexed h.tree (proper_tree proper bytes rules h) h.reads.within)
+
+utf8_tree : (ss : Statements) → IsProper (text ss) → AllTokens holds_utf8 (text ss) → IsUtf8 (canonical (text_value ss))
+utf8_tree ss p u =
+    let tree = text_form (text_value ss) in
+    written_utf8 (map piece_of (text tree)) (text_parted tree (kept_again is_proper refl ss p)) (subst (λ ts. list_all holds_utf8 ts ≡ true) (sym (pieces_bare (text tree))) (kept_again holds_utf8 refl ss u))
+
+pub utf8_again : AreProper → (bytes : List ℕ) (rules : List PlainStatement) → IsUtf8 bytes → Holds bytes rules → IsUtf8 (canonical rules)
+utf8_again proper bytes rules u h =
+    subst (λ rs. IsUtf8 (canonical rs)) h.says (utf8_tree h.tree (proper_tree proper bytes rules h) (passing holds_utf8 bytes rules (λ ts places end l. lexed_utf8 bytes 0 ts places end true u l) h))

@@ -1,14 +1,15 @@
 // Canonical text is read back.
-ghost use Rattle.std.specs.Prelude.{ℕ, List};
+ghost use Rattle.std.specs.Prelude.{ℕ, List, IsUtf8};
 ghost use Rattle.rule_ast.specs.Trees.{PlainStatement};
 ghost use Rattle.rule_parser.specs.Answers.{Holds};
 ghost use Rattle.rule_writer.specs.Canonical.{canonical};
 
 use rule_tokens::{lexemes_are_proper, written_is_read};
 
-/// The canonical text of the rules that a text holds, holds them too.
+/// The canonical text of the rules that a text holds, holds them too, and is UTF-8.
 pub fn rule_files_are_read_back()
-    ensures { (text : List ℕ) (rules : List PlainStatement) → Holds text rules → Holds (canonical rules) rules }
+    ensures held { (text : List ℕ) (rules : List PlainStatement) → Holds text rules → Holds (canonical rules) rules }
+    ensures utf8 { (text : List ℕ) (rules : List PlainStatement) → IsUtf8 text → Holds text rules → IsUtf8 (canonical rules) }
 {
     lexemes_are_proper();
     written_is_read();
