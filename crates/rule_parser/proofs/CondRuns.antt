@@ -1,39 +1,32 @@
 -- How runs go on over the tokens of conditions.
-use Rattle.std.proofs.Common.{Bor, ◌≡◌, ℕ, ◌+◌, ◌<◌, ◌≤◌, Bool, true, false, List, [], ◌∷◌, ◌++◌, length, Option, Some, None, Result, Ok, Err, refl, sym, ap, ◌∙◌, arith, subst}
+use Rattle.std.proofs.Common.{Bor, ◌≡◌, ℕ, ◌+◌, ◌≤◌, true, List, [], ◌∷◌, length, None, Result, Ok, Err, refl, sym, ap, ◌∙◌, arith, subst}
 use Rattle.rule_ast.specs.declared.conditions.Cmp.{Cmp}
 use Rattle.rule_ast.specs.Trees as plain
 use Rattle.rule_ast.specs.Trees.{PlainCond}
-use Rattle.rule_grammar.specs.Trees.{Adding, Adding.Added, Adding.Taken, Scaling, Scaling.Times, Scaling.Over, Scaling.Modulo, Joint, Joint.Joined, Joint.Otherwise}
+use Rattle.rule_grammar.specs.Trees.{Adding, Adding.Added, Adding.Taken, Scaling, Scaling.Times, Scaling.Over, Scaling.Modulo}
 use Rattle.ev_term.specs.declared.terms.Pat.{Pat}
 use Rattle.ev_term.specs.declared.terms.Pat.TheVariants as pat
 use Rattle.rule_tokens.specs.declared.lexemes.Lexeme.{Lexeme}
 use Rattle.rule_tokens.specs.declared.lexemes.Lexeme.TheVariants as t
-use Rattle.rule_grammar.specs.declared.faults.Which.{Which}
 use Rattle.rule_grammar.specs.declared.faults.Which.TheVariants as which
-use Rattle.rule_grammar.specs.declared.faults.Fault.{Fault}
-use Rattle.rule_grammar.specs.declared.faults.Fault.TheVariants as fault
-use Rattle.rule_grammar.specs.Trees.{Literal, Literal.Digits, Literal.Minus, Literal.Least, Literal.Symbol, Literal.Quoted, Term, Term.Leaf, Term.Lone, Term.Compound, Arguments, Arguments.First, Arguments.Next}
-use Rattle.rule_grammar.specs.Trees.{Wanted, Wanted.Variable, Wanted.Anything, HeadTerm, HeadTerm.Leading, HeadTerm.Fixed, HeadTerms, HeadTerms.FirstTerm, HeadTerms.NextTerm, Heading, Heading.Plainly, Heading.Applied}
-use Rattle.rule_grammar.specs.Trees.{Condition, Condition.OneAll, Condition.MoreAll, All, All.OneNegation, All.MoreNegation, Negation, Negation.Negated, Negation.Compared, Comparison, Comparison.OneSum, Comparison.TwoSums, Sum, Sum.OneProduct, Sum.MoreProduct, Product, Product.OneUnit, Product.MoreUnit, Unit', Unit'.Value, Unit'.Grouped}
-use Rattle.rule_grammar.specs.Trees.{Tree, Tree.Plain, Tree.Filtered, Chain, Chain.One, Chain.More, Part, Part.Bare, Part.Atom, Part.Without, Part.Rounded, Round, Round.Bracketed, Round.Exactly, Round.AtMost, Statements}
-use Rattle.rule_grammar.specs.Marks.{Role, Marked, Counted, count, count_all, passed, by_role, with_name, over}
-use Rattle.rule_grammar.specs.Marks.{Role.Quiet, Role.Starts, Role.Single, Role.Binary, Role.Nests, Role.Deepens, Role.Counts, Role.Lists, Role.Lasts, Role.HasArity}
-use Rattle.rule_grammar.specs.Tokens.{literal, sum, comparison, term, arguments, wanted, head_term, part, unit, product, negation, all, condition, chain, count_of, adding, scaling, joint}
-use Rattle.rule_grammar.specs.Lists.{Before, Before.Start, Before.Behind, Nest, Nest.Outside, Nest.Inside, ListState, ListState.WantTerm, ListState.WantDigits, ListState.HaveName, ListState.HaveTerms, Turn, Turn.Stay, Turn.Leave, Turn.Stuck, level, have, have_leaf, behind_terms, list_step, put_term}
-use Rattle.rule_grammar.specs.Machine.{ChainHead, ChainHead.FirstPart, ChainHead.NextPart, TermsHead, TermsHead.FirstOfHead, TermsHead.NextOfHead, put, put_head, Stack, Stack.Body, Stack.InRound, Stack.InNot, Stack.InBefore, Stack.InAfter, Where', Where'.InWhere, Where'.InGroup, OrHead, OrHead.FirstAll, OrHead.NextAll, AndHead, AndHead.FirstNegation, AndHead.NextNegation, NotHead, NotHead.NoBang, NotHead.Bang, CompareHead, CompareHead.FirstSum, CompareHead.SecondSum, SumHead, SumHead.FirstProduct, SumHead.NextProduct, ProductHead, ProductHead.FirstUnit, ProductHead.NextUnit}
-use Rattle.rule_grammar.specs.Machine.{State, State.Between, State.HeadName, State.WantHeadTerm, State.HeadMinus, State.HeadWord, State.HaveHeadTerms, State.InHead, State.HaveHead, State.WantItem, State.ItemName, State.ItemSlash, State.HaveItems, State.WantPart, State.AtomName, State.InAtom, State.WantOpen, State.WantLimits, State.HavePart, State.HaveRound, State.WantExact, State.WantMost, State.WantNegation, State.WantUnit, State.UnitMinus, State.UnitName, State.InOperand, State.HaveProduct}
-use Rattle.rule_grammar.specs.Machine.{depth, where_depth, or_depth, and_depth, not_depth, compare_depth, sum_depth, product_depth, have_unit, over_product, over_sum, over_negation, over_all, over_condition, Step, to, first_all, first_unit, behind, behind_chain, behind_condition, behind_all, behind_negation, behind_comparison, behind_sum, behind_all_products, behind_product, behind_unit, want_unit, reads_nothing, reads_wanted, reads_variable, in_head, in_atom, in_operand, behind_head_terms, step, unless_passed, onward, run}
+use Rattle.rule_grammar.specs.Trees.{Literal, Literal.Digits, Literal.Minus, Literal.Least, Literal.Symbol, Literal.Quoted, Term.Leaf, Term.Lone, Term.Compound}
+use Rattle.rule_grammar.specs.Trees.{Condition.OneAll, Condition.MoreAll, All, All.OneNegation, All.MoreNegation, Negation.Negated, Negation.Compared, Comparison.OneSum, Comparison.TwoSums, Sum, Sum.OneProduct, Sum.MoreProduct, Product, Product.OneUnit, Product.MoreUnit, Unit', Unit'.Value, Unit'.Grouped}
+use Rattle.rule_grammar.specs.Marks.{Marked, Counted, count, count_all, passed}
+use Rattle.rule_grammar.specs.Marks.{Role.Quiet, Role.Single, Role.Binary, Role.Nests, Role.Deepens}
+use Rattle.rule_grammar.specs.Tokens.{literal, sum, arguments, unit, product, negation, all, adding, scaling}
+use Rattle.rule_grammar.specs.Lists.{Before.Start, Nest.Outside, ListState.WantTerm, behind_terms}
+use Rattle.rule_grammar.specs.Machine.{Where'.InGroup, OrHead, OrHead.FirstAll, OrHead.NextAll, AndHead.FirstNegation, AndHead.NextNegation, NotHead, NotHead.NoBang, NotHead.Bang, CompareHead, CompareHead.FirstSum, CompareHead.SecondSum, SumHead, SumHead.FirstProduct, SumHead.NextProduct, ProductHead, ProductHead.FirstUnit, ProductHead.NextUnit}
+use Rattle.rule_grammar.specs.Machine.{State.WantNegation, State.WantUnit, State.UnitMinus, State.UnitName, State.InOperand}
+use Rattle.rule_grammar.specs.Machine.{not_depth, product_depth, have_unit, over_product, over_condition, to, first_all, first_unit, behind_condition, behind_all, behind_comparison, behind_all_products, behind_product, behind_unit, in_operand, run}
 use Rattle.rule_parser.specs.declared.faults.Stop.{Stop}
-use Rattle.rule_parser.specs.declared.faults.Stop.TheVariants as stop
 use Rattle.rule_parser.specs.declared.signs.Sign.TheVariants as sign
-use Rattle.rule_parser.specs.declared.terms.Kind.{Kind}
-use Rattle.rule_parser.specs.declared.terms.Kind.TheVariants.{Ground, Operand, Argument}
-use Rattle.rule_parser.specs.Signs.{Lacks, LacksJoint, LacksAdding, LacksScaling, LacksCompare}
-use Rattle.rule_parser.specs.Steps.{Fine, with_variable, with_part, Extends, Fails, resume, Level, Runs, Read, Leaves, Place, base, leaf_read, leaf_lexeme, in_list, turn_of, leaf_value, term_of, terms_of, term_level, terms_level, ListRead, word_tokens, IsNoSymbol, LacksWord, LacksDigits, WordRead, WordFails, WordAnswer, NegativeAnswer, LeafRead, LeafFails, LeafAnswer, SlotStops, ListAnswer, Answer, same, counted}
-use Rattle.rule_grammar.specs.Values.{slot_of, variable, wanted_value, never_value, literal_value, term_value, arguments_value, head_term_value, head_terms_value, adding_value, scaling_value, condition_value, all_value, negation_value, comparison_value, sum_value, product_value, unit_value, joined_value, tree_value, chain_value, part_value, round_value}
+use Rattle.rule_parser.specs.declared.terms.Kind.TheVariants.{Operand}
+use Rattle.rule_parser.specs.Signs.{Lacks, LacksAdding, LacksScaling, LacksCompare}
+use Rattle.rule_parser.specs.Steps.{Fine, with_variable, with_part, Extends, Fails, resume, Level, Read, terms_of, ListRead, word_tokens, IsNoSymbol, LacksWord, WordRead, Answer}
+use Rattle.rule_grammar.specs.Values.{slot_of, adding_value, scaling_value, condition_value, all_value, negation_value, comparison_value, sum_value, product_value, unit_value}
 use Rattle.rule_parser.proofs.Names.{extends_refl, extends_trans, extends_name}
-use Rattle.rule_parser.specs.Steps.{AnswerTo, Link, begins_word, unit_level, product_level, sum_level, comparison_level, negation_level, all_level, condition_level}
-use Rattle.rule_parser.proofs.TermRuns.{on, off, run_on, run_off, resume_on, resume_off, by_role_alone, quiet, fits, exceeds, too_many_parts, too_many_names, fails_along, word_shorter}
+use Rattle.rule_parser.specs.Steps.{Link, begins_word, unit_level, product_level, sum_level, comparison_level, negation_level, all_level, condition_level}
+use Rattle.rule_parser.proofs.TermRuns.{run_on, resume_on, by_role_alone, quiet, fits, fails_along, word_shorter}
 
 -- Two trees with a token of one part between them.
 

@@ -1,5 +1,5 @@
 -- How runs go on over the tokens of heads and statements.
-use Rattle.std.proofs.Common.{◌≡◌, ℕ, ◌+◌, ◌<◌, ◌≤◌, List, [], ◌∷◌, ◌++◌, length, map, Option, Some, None, Result, Ok, Err, refl, sym, ap, ◌∙◌, arith, subst, length-append}
+use Rattle.std.proofs.Common.{◌≡◌, ℕ, ◌+◌, ◌<◌, ◌≤◌, List, [], ◌∷◌, ◌++◌, length, map, None, Err, refl, sym, ap, ◌∙◌, arith, subst, length-append}
 use Rattle.std.proofs.lemmas.List.{map-append}
 use Rattle.ev_term.specs.declared.atoms.PatAtom.{PatAtom}
 use Rattle.ev_term.specs.declared.atoms.NameArity.{NameArity}
@@ -11,32 +11,27 @@ use Rattle.ev_term.specs.declared.terms.Pat.{Pat}
 use Rattle.ev_term.specs.declared.terms.Pat.TheVariants as pat
 use Rattle.rule_tokens.specs.declared.lexemes.Lexeme.{Lexeme}
 use Rattle.rule_tokens.specs.declared.lexemes.Lexeme.TheVariants as t
-use Rattle.rule_grammar.specs.declared.faults.Which.{Which}
 use Rattle.rule_grammar.specs.declared.faults.Which.TheVariants as which
-use Rattle.rule_grammar.specs.declared.faults.Fault.{Fault}
 use Rattle.rule_grammar.specs.declared.faults.Fault.TheVariants as fault
-use Rattle.rule_grammar.specs.Trees.{Literal, Literal.Digits, Literal.Minus, Literal.Least, Literal.Symbol, Literal.Quoted, Term, Term.Leaf, Term.Lone, Term.Compound, Arguments, Arguments.First, Arguments.Next}
-use Rattle.rule_grammar.specs.Trees.{Wanted, Wanted.Variable, Wanted.Anything, HeadTerm, HeadTerm.Leading, HeadTerm.Fixed, HeadTerms, HeadTerms.FirstTerm, HeadTerms.NextTerm, Heading, Heading.Plainly, Heading.Applied}
-use Rattle.rule_grammar.specs.Trees.{Condition, Condition.OneAll, Condition.MoreAll, All, All.OneNegation, All.MoreNegation, Negation, Negation.Negated, Negation.Compared, Comparison, Comparison.OneSum, Comparison.TwoSums, Sum, Sum.OneProduct, Sum.MoreProduct, Product, Product.OneUnit, Product.MoreUnit, Unit', Unit'.Value, Unit'.Grouped}
-use Rattle.rule_grammar.specs.Trees.{Tree, Tree.Plain, Tree.Filtered, Chain, Chain.One, Chain.More, Part, Part.Bare, Part.Atom, Part.Without, Part.Rounded, Round, Round.Bracketed, Round.Exactly, Round.AtMost, Items, Items.OneItem, Items.MoreItem, Statement, Statement.Clause, Statement.Shown, Statements, Statements.Empty, Statements.Then}
-use Rattle.rule_grammar.specs.Marks.{Role, Marked, Counted, nothing_counted, count, count_all, passed, by_role, with_name, over}
-use Rattle.rule_grammar.specs.Marks.{Role.Quiet, Role.Starts, Role.Single, Role.Binary, Role.Nests, Role.Deepens, Role.Counts, Role.Lists, Role.Lasts, Role.HasArity}
-use Rattle.rule_grammar.specs.Tokens.{literal, head_terms, heading, statement, number_of, count_of_terms, tree, term, arguments, wanted, head_term, part, unit, product, negation, all, condition, chain, count_of, adding, scaling, joint}
-use Rattle.rule_grammar.specs.Lists.{Before, Before.Start, Before.Behind, Nest, Nest.Outside, Nest.Inside, ListState, ListState.WantTerm, ListState.WantDigits, ListState.HaveName, ListState.HaveTerms, Turn, Turn.Stay, Turn.Leave, Turn.Stuck, level, have, have_leaf, behind_terms, list_step, put_term}
-use Rattle.rule_grammar.specs.Machine.{ChainHead, ChainHead.FirstPart, ChainHead.NextPart, TermsHead, TermsHead.FirstOfHead, TermsHead.NextOfHead, ItemsHead, ItemsHead.FirstShown, ItemsHead.NextShown, put_item, put, put_head, Stack, Stack.Body, Stack.InRound, Stack.InNot, Stack.InBefore, Stack.InAfter, Where', Where'.InWhere, Where'.InGroup, OrHead, OrHead.FirstAll, OrHead.NextAll, AndHead, AndHead.FirstNegation, AndHead.NextNegation, NotHead, NotHead.NoBang, NotHead.Bang, CompareHead, CompareHead.FirstSum, CompareHead.SecondSum, SumHead, SumHead.FirstProduct, SumHead.NextProduct, ProductHead, ProductHead.FirstUnit, ProductHead.NextUnit}
-use Rattle.rule_grammar.specs.Machine.{State, State.Between, State.HeadName, State.WantHeadTerm, State.HeadMinus, State.HeadWord, State.HaveHeadTerms, State.InHead, State.HaveHead, State.WantItem, State.ItemName, State.ItemSlash, State.HaveItems, State.WantPart, State.AtomName, State.InAtom, State.WantOpen, State.WantLimits, State.HavePart, State.HaveRound, State.WantExact, State.WantMost, State.WantNegation, State.WantUnit, State.UnitMinus, State.UnitName, State.InOperand, State.HaveProduct}
-use Rattle.rule_grammar.specs.Machine.{depth, where_depth, or_depth, and_depth, not_depth, compare_depth, sum_depth, product_depth, have_unit, over_product, over_sum, over_negation, over_all, over_condition, Step, to, first_all, first_unit, behind, behind_chain, behind_condition, behind_all, behind_negation, behind_comparison, behind_sum, behind_all_products, behind_product, behind_unit, want_unit, reads_nothing, reads_wanted, reads_variable, in_head, in_atom, in_operand, behind_head_terms, step, unless_passed, onward, run}
+use Rattle.rule_grammar.specs.Trees.{Literal, Literal.Digits, Literal.Minus, Literal.Least, Literal.Symbol, Literal.Quoted, Term.Lone, Term.Compound}
+use Rattle.rule_grammar.specs.Trees.{HeadTerm.Leading, HeadTerm.Fixed, HeadTerms, HeadTerms.FirstTerm, HeadTerms.NextTerm, Heading, Heading.Plainly, Heading.Applied}
+use Rattle.rule_grammar.specs.Trees.{Items.OneItem, Items.MoreItem, Statement.Clause, Statement.Shown, Statements, Statements.Empty, Statements.Then}
+use Rattle.rule_grammar.specs.Marks.{Marked, Counted, nothing_counted, count_all, passed}
+use Rattle.rule_grammar.specs.Marks.{Role.Quiet, Role.Starts, Role.Deepens, Role.Counts, Role.Lists, Role.HasArity}
+use Rattle.rule_grammar.specs.Tokens.{literal, head_terms, statement, number_of, count_of_terms, tree, head_term}
+use Rattle.rule_grammar.specs.Lists.{Before.Start, Nest.Outside, ListState.WantTerm, behind_terms}
+use Rattle.rule_grammar.specs.Machine.{ChainHead.FirstPart, TermsHead, TermsHead.FirstOfHead, TermsHead.NextOfHead, ItemsHead, ItemsHead.FirstShown, ItemsHead.NextShown, put_item, put_head, Stack.Body}
+use Rattle.rule_grammar.specs.Machine.{State.Between, State.HeadName, State.WantHeadTerm, State.HeadMinus, State.HeadWord, State.HaveHeadTerms, State.InHead, State.HaveHead, State.WantItem, State.ItemName, State.ItemSlash, State.HaveItems, State.WantPart}
+use Rattle.rule_grammar.specs.Machine.{behind, in_head, behind_head_terms, run}
 use Rattle.rule_parser.specs.declared.faults.Stop.{Stop}
-use Rattle.rule_parser.specs.declared.faults.Stop.TheVariants as stop
 use Rattle.rule_parser.specs.declared.signs.Sign.TheVariants as sign
-use Rattle.rule_parser.specs.declared.terms.Kind.{Kind}
-use Rattle.rule_parser.specs.declared.terms.Kind.TheVariants.{Ground, Operand, Argument}
-use Rattle.rule_parser.specs.Signs.{Lacks, LacksJoint, LacksAdding, LacksScaling, LacksCompare}
-use Rattle.rule_parser.specs.Steps.{Fine, with_variable, with_part, Extends, Fails, resume, Level, Runs, Read, Leaves, Place, base, leaf_read, leaf_lexeme, in_list, turn_of, leaf_value, term_of, terms_of, term_level, terms_level, ListRead, word_tokens, IsNoSymbol, LacksWord, LacksDigits, WordRead, WordFails, WordAnswer, NegativeAnswer, LeafRead, LeafFails, LeafAnswer, SlotStops, ListAnswer, Answer, same, counted}
-use Rattle.rule_grammar.specs.Values.{slot_of, variable, wanted_value, never_value, literal_value, term_value, arguments_value, head_term_value, head_terms_value, adding_value, scaling_value, condition_value, all_value, negation_value, comparison_value, sum_value, product_value, unit_value, joined_value, tree_value, chain_value, part_value, round_value, heading_value, items_value, names_of, statement_value, text_value}
+use Rattle.rule_parser.specs.declared.terms.Kind.TheVariants.{Ground}
+use Rattle.rule_parser.specs.Signs.{Lacks}
+use Rattle.rule_parser.specs.Steps.{Fine, with_variable, Extends, Fails, resume, Read, terms_of, ListRead, word_tokens, IsNoSymbol, WordRead}
+use Rattle.rule_grammar.specs.Values.{slot_of, head_term_value, head_terms_value, tree_value, heading_value, names_of, statement_value}
 use Rattle.rule_parser.proofs.Names.{extends_refl, extends_trans, extends_name}
-use Rattle.rule_parser.specs.Steps.{tree_level, head_term_level, head_terms_level, HeadListRead, HeadRead, StatementRead, ItemRead, ItemsRead, NextRead, FileRead, WholeRead, named_state, shown_state, clause_of}
-use Rattle.rule_parser.proofs.TermRuns.{run_on, run_off, resume_on, resume_off, by_role_alone, quiet, fits, exceeds, fails_along, word_shorter, too_many_names}
+use Rattle.rule_parser.specs.Steps.{tree_level, head_term_level, head_terms_level, HeadListRead, HeadRead, StatementRead, ItemRead, ItemsRead, NextRead, FileRead, WholeRead, named_state, shown_state}
+use Rattle.rule_parser.proofs.TermRuns.{run_on, run_off, resume_on, resume_off, by_role_alone, quiet, fits, exceeds, fails_along, word_shorter}
 
 -- Terms of heads.
 

@@ -1,5 +1,5 @@
 -- What parse says, from what a run over the tokens says.
-use Rattle.std.proofs.Common.{◌≡◌, ℕ, ◌-◌, ◌⊎◌, inl, inr, Bool, true, false, List, [], ◌∷◌, length, drop, Result, Ok, Err, IfOk, refl, sym, ap, ◌∙◌, arith, subst}
+use Rattle.std.proofs.Common.{◌≡◌, ℕ, ◌⊎◌, inl, inr, Bool, true, false, List, [], Result, Ok, Err, IfOk, sym, ap, ◌∙◌, subst}
 use Rattle.std.proofs.lemmas.List.{append-nil}
 use Rattle.rule_ast.specs.declared.statements.RuleSet.{RuleSet}
 use Rattle.rule_ast.specs.Trees.{PlainStatement}
@@ -12,14 +12,14 @@ use Rattle.rule_grammar.specs.declared.faults.Fault.TheVariants as fault
 use Rattle.rule_grammar.specs.Trees.{Statements, Statements.Empty}
 use Rattle.rule_grammar.specs.Machine.{run, State.Between}
 use Rattle.rule_grammar.specs.Marks.{nothing_counted}
-use Rattle.rule_grammar.specs.Tokens.{text, bare}
+use Rattle.rule_grammar.specs.Tokens.{text}
 use Rattle.rule_grammar.specs.Texts.{Reads, Means}
 use Rattle.rule_grammar.specs.Values.{text_value}
 use Rattle.rule_grammar.proofs.Reports.{one_tree, means, only}
 use Rattle.rule_grammar.proofs.ShapedLaws.{shaped_text}
 use Rattle.rule_parser.specs.declared.faults.ParseFault.{ParseFault}
 use Rattle.rule_parser.specs.declared.faults.ParseFault.TheVariants.{Syntax, Limit, Memory}
-use Rattle.rule_parser.specs.Answers.{Holds, first_or, place_of, Begins, Wrong, SyntaxIn, LimitIn, Answers, Gives, Fits, Misfits, Passes, Parsed}
+use Rattle.rule_parser.specs.Answers.{Holds, Begins, Wrong, Answers, Gives, Misfits, Parsed}
 
 pub same_tree : {bytes : List ℕ} {rules others : List PlainStatement} (a : Holds bytes rules) (b : Holds bytes others) → a.tree ≡ b.tree
 same_tree {bytes} a b =

@@ -1,7 +1,5 @@
 -- What a function that reads tokens gives, under every context in which they can stand.
 use Rattle.std.specs.Prelude.{◌≡◌, ℕ, ◌+◌, ◌^◌, ◌<◌, ◌≤◌, Bool, true, false, List, [], ◌∷◌, ◌++◌, length, map, Option, Some, None, Result, Ok, Err}
-use Rattle.std.specs.List.{list_any}
-use Rattle.std.specs.Str.{bytes_eq}
 use Rattle.std.specs.Prelude.{Box}
 use Rattle.std.specs.Borrow.{Bor}
 use Rattle.rule_ast.specs.declared.patterns.Pattern.{Pattern}
@@ -15,17 +13,16 @@ use Rattle.std.specs.declared.vec.Vec.{Vec}
 use Rattle.ev_term.specs.declared.terms.Pat.{Pat}
 use Rattle.rule_tokens.specs.declared.lexemes.Lexeme.{Lexeme}
 use Rattle.rule_tokens.specs.declared.lexemes.Lexeme.TheVariants as t
-use Rattle.rule_grammar.specs.declared.faults.Which.{Which}
 use Rattle.rule_grammar.specs.declared.faults.Which.TheVariants as which
 use Rattle.rule_grammar.specs.declared.faults.Fault.{Fault}
 use Rattle.rule_grammar.specs.declared.faults.Fault.TheVariants as fault
-use Rattle.rule_grammar.specs.Trees.{Literal, Literal.Digits, Literal.Minus, Literal.Least, Literal.Symbol, Literal.Quoted, Term, Arguments, Wanted, Wanted.Variable, Wanted.Anything, HeadTerm, HeadTerms, Heading, Condition, All, Negation, Comparison, Sum, Product, Unit', Tree, Chain, Part, Round, Items, Statement, Statements, Statements.Empty, Statements.Then}
-use Rattle.rule_grammar.specs.Marks.{Role, Marked, Counted, nothing_counted, count, count_all, passed, with_name, with_parts}
-use Rattle.rule_grammar.specs.Marks.{Role.Quiet, Role.Single, Role.Binary}
-use Rattle.rule_grammar.specs.Values.{slot_of, variable, wanted_value, never_value, literal_value, term_value, arguments_value, head_term_value, head_terms_value, condition_value, all_value, negation_value, comparison_value, sum_value, product_value, unit_value, tree_value, chain_value, part_value, round_value, heading_value, items_value, statement_value, text_value}
+use Rattle.rule_grammar.specs.Trees.{Literal, Literal.Digits, Literal.Minus, Literal.Least, Literal.Symbol, Literal.Quoted, Term, Arguments, Wanted, HeadTerm, HeadTerms, Heading, Condition, All, Negation, Comparison, Sum, Product, Unit', Tree, Chain, Part, Round, Items, Statement, Statements, Statements.Empty, Statements.Then}
+use Rattle.rule_grammar.specs.Marks.{Marked, Counted, nothing_counted, count, count_all, passed, with_name}
+use Rattle.rule_grammar.specs.Marks.{Role.Quiet, Role.Binary}
+use Rattle.rule_grammar.specs.Values.{variable, wanted_value, never_value, literal_value, term_value, arguments_value, head_terms_value, heading_value, items_value, statement_value, text_value}
 use Rattle.rule_grammar.specs.Tokens.{never, wanted, term, arguments, head_term, head_terms, heading, number_of, condition, all, negation, comparison, sum, product, unit, tree, chain, part, round}
-use Rattle.rule_grammar.specs.Lists.{Before, Before.Start, Nest, ListState, ListState.WantTerm, ListState.HaveName, Turn, level, behind_terms, put_term}
-use Rattle.rule_grammar.specs.Machine.{ChainHead, ChainHead.FirstPart, TermsHead, TermsHead.FirstOfHead, ItemsHead, ItemsHead.FirstShown, Stack, Stack.Body, Where', OrHead, AndHead.FirstNegation, NotHead, NotHead.NoBang, CompareHead, SumHead, ProductHead, ProductHead.FirstUnit, CompareHead.FirstSum, AtomPlace, OperandPlace, HeadPlace, State, State.InHead, State.InAtom, State.InOperand, State.WantPart, State.WantOpen, State.AtomName, State.HaveRound, State.WantNegation, State.WantUnit, State.UnitName, State.WantHeadTerm, State.HeadWord, State.Between, State.HeadName, State.WantItem, State.HaveItems}
+use Rattle.rule_grammar.specs.Lists.{Before, Before.Start, Nest, ListState, ListState.WantTerm, Turn, level, behind_terms, put_term}
+use Rattle.rule_grammar.specs.Machine.{ChainHead, ChainHead.FirstPart, TermsHead, TermsHead.FirstOfHead, ItemsHead, ItemsHead.FirstShown, Stack, Stack.Body, Where', OrHead, AndHead.FirstNegation, NotHead, NotHead.NoBang, CompareHead, SumHead, ProductHead, ProductHead.FirstUnit, CompareHead.FirstSum, AtomPlace, OperandPlace, HeadPlace, State, State.InHead, State.InAtom, State.InOperand, State.WantPart, State.HaveRound, State.WantNegation, State.WantUnit, State.WantHeadTerm, State.Between, State.HeadName, State.WantItem, State.HaveItems}
 use Rattle.rule_grammar.specs.Machine.{Step, to, put, put_head, depth, where_depth, or_depth, not_depth, compare_depth, sum_depth, product_depth, have_unit, over_negation, first_all, first_unit, behind, behind_chain, behind_condition, behind_all, behind_negation, behind_comparison, behind_all_products, behind_product, behind_unit, behind_head_terms, reads_nothing, reads_wanted, reads_variable, in_head, in_atom, in_operand, step, onward, run}
 use Rattle.rule_parser.specs.declared.faults.Stop.{Stop}
 use Rattle.rule_parser.specs.declared.faults.Stop.TheVariants as stop

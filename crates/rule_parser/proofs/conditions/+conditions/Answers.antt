@@ -1,4 +1,4 @@
-use Rattle.std.proofs.Common.{◌≡◌, ◌+◌, ◌≤◌, refl, arith}
+use Rattle.std.proofs.Common.{refl, arith}
 use Rattle.rule_ast.specs.Plain.{plain_cond}
 use Rattle.rule_parser.specs.Steps.{counted}
 use Rattle.rule_parser.specs.Signs.{adding_of, scaling_of}

@@ -1,4 +1,4 @@
-use Rattle.std.proofs.Common.{◌≡◌, ◌+◌, ◌*◌, ◌<◌, ℕ, length}
+use Rattle.std.proofs.Common.{◌+◌, ◌*◌, length}
 use Rattle.rule_ast.specs.Plain.{plain_cond}
 use Rattle.rule_grammar.specs.Values.{product_value, sum_value, all_value, condition_value}
 use Rattle.rule_parser.specs.Steps.{counted, Read, product_level, sum_level, all_level, condition_level}

@@ -1,4 +1,3 @@
-use Rattle.std.proofs.Common.{◌≡◌}
 use Rattle.rule_parser.proofs.CondRuns.{unit_symbol, unit_compound}
 use Rattle.rule_parser.proofs.conditions.named_operand_at.Goals as goal
 

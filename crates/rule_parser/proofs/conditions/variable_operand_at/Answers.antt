@@ -1,4 +1,3 @@
-use Rattle.std.proofs.Common.{◌≡◌}
 use Rattle.rule_parser.proofs.CondRuns.{unit_variable}
 use Rattle.rule_parser.proofs.conditions.variable_operand_at.Goals as goal
 

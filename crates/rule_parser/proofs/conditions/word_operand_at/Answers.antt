@@ -1,4 +1,3 @@
-use Rattle.std.proofs.Common.{◌≡◌}
 use Rattle.rule_parser.proofs.CondRuns.{unit_word}
 use Rattle.rule_parser.proofs.conditions.word_operand_at.Goals as goal
 

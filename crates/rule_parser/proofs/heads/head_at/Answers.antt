@@ -1,4 +1,4 @@
-use Rattle.std.proofs.Common.{rules, ◌≡◌, ◌∙◌}
+use Rattle.std.proofs.Common.{◌∙◌}
 use Rattle.std.proofs.lemmas.Result.{err_from_is_err_and}
 use Rattle.rule_parser.proofs.FileRuns.{head_plain, head_applied, head_fails, head_no_arrow}
 use Rattle.rule_parser.proofs.heads.head_at.Goals as goal

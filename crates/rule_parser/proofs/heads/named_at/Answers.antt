@@ -1,4 +1,3 @@
-use Rattle.std.proofs.Common.{◌≡◌}
 use Rattle.rule_parser.proofs.FileRuns.{head_symbol, head_compound}
 use Rattle.rule_parser.proofs.heads.named_at.Goals as goal
 

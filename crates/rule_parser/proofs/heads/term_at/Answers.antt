@@ -1,4 +1,3 @@
-use Rattle.std.proofs.Common.{◌≡◌}
 use Rattle.rule_parser.proofs.FileRuns.{head_word, head_variable}
 use Rattle.rule_parser.proofs.heads.term_at.Goals as goal
 

@@ -1,4 +1,4 @@
-use Rattle.std.proofs.Common.{rules, ◌≡◌, ◌<◌, ◌≤◌, refl, arith}
+use Rattle.std.proofs.Common.{rules, refl}
 use Rattle.std.proofs.lemmas.Result.{err_from_is_err_and}
 use Rattle.rule_grammar.specs.Machine.{TermsHead.FirstOfHead}
 use Rattle.rule_parser.proofs.FileRuns.{heads_one, heads_more, heads_wide, heads_fail}

@@ -1,4 +1,4 @@
-use Rattle.std.proofs.Common.{ℕ, length}
+use Rattle.std.proofs.Common.{length}
 use Rattle.rule_grammar.specs.Values.{head_terms_value}
 use Rattle.rule_parser.specs.Steps.{counted, Read, head_terms_level}
 use Rattle.rule_parser.proofs.heads.terms_at.Given as goal

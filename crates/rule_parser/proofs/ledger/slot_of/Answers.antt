@@ -1,4 +1,4 @@
-use Rattle.std.proofs.Common.{rules, ◌≡◌}
+use Rattle.std.proofs.Common.{rules}
 use Rattle.rule_parser.proofs.Names.{old_slot, pushed_slot}
 use Rattle.rule_parser.proofs.ledger.slot_of.Goals as goal
 

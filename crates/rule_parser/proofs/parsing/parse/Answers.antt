@@ -1,4 +1,3 @@
-use Rattle.std.proofs.Common.{◌≡◌}
 use Rattle.rule_parser.proofs.Meanings.{answers, gives, shaped}
 use Rattle.rule_parser.proofs.parsing.parse.Goals as goal
 

@@ -1,4 +1,4 @@
-use Rattle.std.proofs.Common.{◌≡◌, ◌+◌, ◌*◌, ◌<◌, ℕ, length}
+use Rattle.std.proofs.Common.{◌+◌, ◌*◌, length}
 use Rattle.rule_grammar.specs.Values.{round_value, chain_value, tree_value}
 use Rattle.rule_parser.specs.Steps.{counted, Read, boxed_pattern, round_level, chain_level, tree_level}
 use Rattle.rule_parser.proofs.patterns.+patterns.Given as goal

@@ -1,4 +1,4 @@
-use Rattle.std.proofs.Common.{rules, ◌≡◌, ◌∙◌}
+use Rattle.std.proofs.Common.{◌∙◌}
 use Rattle.rule_parser.proofs.PatternRuns.{part_bare, part_atom}
 use Rattle.rule_parser.proofs.patterns.atom_at.Goals as goal
 

@@ -1,4 +1,4 @@
-use Rattle.std.proofs.Common.{rules, ◌≡◌, refl}
+use Rattle.std.proofs.Common.{refl}
 use Rattle.rule_parser.proofs.FileRuns.{rule_read}
 use Rattle.rule_parser.proofs.statements.rule_at.Goals as goal
 

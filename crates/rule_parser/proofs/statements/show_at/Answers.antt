@@ -1,4 +1,4 @@
-use Rattle.std.proofs.Common.{rules, ◌≡◌}
+use Rattle.std.proofs.Common.{rules}
 use Rattle.rule_parser.proofs.FileRuns.{items_one, items_more, show_read}
 use Rattle.rule_parser.proofs.statements.show_at.Goals as goal
 

@@ -1,4 +1,4 @@
-use Rattle.std.proofs.Common.{ℕ, length}
+use Rattle.std.proofs.Common.{length}
 use Rattle.rule_parser.specs.Steps.{ItemsRead}
 use Rattle.rule_parser.proofs.statements.show_at.Given as goal
 

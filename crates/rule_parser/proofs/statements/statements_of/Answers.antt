@@ -1,4 +1,4 @@
-use Rattle.std.proofs.Common.{rules, ◌≡◌}
+use Rattle.std.proofs.Common.{rules}
 use Rattle.rule_parser.proofs.FileRuns.{file_begins, file_more}
 use Rattle.rule_parser.proofs.statements.statements_of.Goals as goal
 

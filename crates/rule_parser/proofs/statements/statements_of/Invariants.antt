@@ -1,4 +1,4 @@
-use Rattle.std.proofs.Common.{ℕ, length}
+use Rattle.std.proofs.Common.{length}
 use Rattle.rule_parser.specs.Steps.{FileRead}
 use Rattle.rule_parser.proofs.statements.statements_of.Given as goal
 

@@ -1,8 +1,8 @@
-use Rattle.std.proofs.Common.{rules, ◌≡◌, ◌<◌, ◌≤◌, ◌+◌, refl, sym, ap, ◌∙◌, arith}
+use Rattle.std.proofs.Common.{rules, arith}
 use Rattle.std.proofs.lemmas.Result.{err_from_is_err_and}
 use Rattle.rule_grammar.specs.Lists.{Before.Start}
 use Rattle.rule_parser.specs.Steps.{counted}
-use Rattle.rule_parser.proofs.TermRuns.{term_word, term_leaf, term_stuck, term_ended, term_symbol, term_compound, compound_deep, compound_fails, terms_one, terms_more, terms_wide, terms_fail, terms_closed, terms_stuck, word_err, leaf_err}
+use Rattle.rule_parser.proofs.TermRuns.{term_word, term_leaf, term_stuck, term_symbol, term_compound, compound_deep, compound_fails, terms_one, terms_more, terms_wide, terms_fail, terms_stuck, word_err, leaf_err}
 use Rattle.rule_parser.proofs.terms.+terms.Goals as goal
 
 pub arguments_at-returns-in_err-first : goal.arguments_at-returns-in_err-first

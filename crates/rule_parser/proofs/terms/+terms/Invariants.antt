@@ -1,4 +1,4 @@
-use Rattle.std.proofs.Common.{◌≡◌, ◌+◌, ◌*◌, ◌<◌, ℕ, length}
+use Rattle.std.proofs.Common.{◌+◌, ◌*◌, length}
 use Rattle.rule_parser.specs.Steps.{counted, Read, terms_level, terms_of}
 use Rattle.rule_parser.proofs.terms.+terms.Given as goal
 

@@ -1,4 +1,3 @@
-use Rattle.std.proofs.Common.{rules, ◌≡◌, refl, sym, ap, ◌∙◌}
 use Rattle.std.proofs.lemmas.Result.{err_from_is_err_and}
 use Rattle.rule_parser.specs.Steps.{counted}
 use Rattle.rule_parser.proofs.TermRuns.{leaf_variable, leaf_variable_err, leaf_anything, no_anything, no_leaf_token}

@@ -1,4 +1,3 @@
-use Rattle.std.proofs.Common.{◌≡◌}
 use Rattle.rule_parser.proofs.TermRuns.{word_negative}
 use Rattle.rule_parser.proofs.terms.negative_at.Goals as goal
 

@@ -1,4 +1,3 @@
-use Rattle.std.proofs.Common.{◌≡◌}
 use Rattle.rule_parser.proofs.TermRuns.{word_number, word_text}
 use Rattle.rule_parser.proofs.terms.word_at.Goals as goal
 
