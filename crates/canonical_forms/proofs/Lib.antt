@@ -1,9 +1,6 @@
 pub mod Options
 pub mod NumberTexts
 pub mod ReadTexts
-pub mod Parts
 pub mod Words
 pub mod CutLaws
 pub mod EventLaws
-pub mod VarParts
-pub mod RuleLaws

@@ -14,10 +14,6 @@ pub mapped_if : {X Y : Type 0} (f : X → Y) (t : Bool) (x : X) (y : Y) → opti
 mapped_if f true x y e = (refl, cc)
 mapped_if f false x y e = cc
 
-pub unmapped_if : {X Y : Type 0} (f : X → Y) (t : Bool) (x : X) → option_map f (cond t (Some x) None) ≡ None → t ≡ false
-unmapped_if f true x e = cc
-unmapped_if f false x e = refl
-
 pub cond_some : {X : Type 0} (t : Bool) (o : Option X) (y : X) → cond t o None ≡ Some y → (t ≡ true) × (o ≡ Some y)
 cond_some true o y e = (refl, e)
 cond_some false o y e = cc
@@ -25,10 +21,6 @@ cond_some false o y e = cc
 pub and_then_some : {X Y : Type 0} (f : X → Option Y) (o : Option X) (y : Y) → option_and_then f o ≡ Some y → (x : X) × (o ≡ Some x) × (f x ≡ Some y)
 and_then_some f None y e = cc
 and_then_some f (Some x) y e = (x, refl, e)
-
-pub map_some : {X Y : Type 0} (f : X → Y) (o : Option X) (y : Y) → option_map f o ≡ Some y → (x : X) × (o ≡ Some x) × (f x ≡ y)
-map_some f None y e = cc
-map_some f (Some x) y e = (x, refl, cc)
 
 pub same_some : {X : Type 0} (x y : X) → Some x ≡ Some y → x ≡ y
 same_some x y e = cc

@@ -1,20 +1,16 @@
-//! Events and rules read from their canonical texts.
+//! Events read from their canonical texts.
 #![tactic(auto)]
 
 mod cuts;
 mod event_lines;
-mod names;
 mod numbers;
-mod rule_files;
-mod rule_words;
 
 pub use event_lines::{event_lines_are_exact, read_event_line};
-pub use rule_files::{read_rule_file, rule_files_are_exact};
 
 #[cfg(test)]
 mod tests {
     use super::*;
-    use ev_term::{Pat, Term};
+    use ev_term::Term;
     use std::test::Fail;
 
     #[test]
@@ -30,16 +26,6 @@ mod tests {
                 [Term::Num(-2), Term::Text(_), Term::Comp(_, _)]
             )
         );
-        Ok(())
-    }
-
-    #[test]
-    fn a_rule_is_read(rt: HostRuntime) -> Result<(), Fail> {
-        let file = b"ab(Y,X) <- a(X) SEQ b(X,Y).\n";
-        let rule = read_rule_file(rt.alloc(), file)?.expect(&rt, "a rule");
-        assert_eq!(rt; rule.head.name.as_str(), "ab");
-        assert!(rt; matches!(rule.left.args.as_slice(), [Pat::Var(slot)] if slot.number() == 1));
-        assert_eq!(rt; rule.right.args.as_slice().len(), 2);
         Ok(())
     }
 }

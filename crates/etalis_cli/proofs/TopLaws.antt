@@ -1,18 +1,24 @@
 -- What a run over the lines says of the output, where the source tells its bytes.
-use Rattle.std.proofs.Common.{◌≡◌, ℕ, ◌+◌, ◌-◌, ◌≤◌, List, [], ◌++◌, Option, Some, None, Result, Ok, Err, length, take, drop, sym, ap, ◌∙◌, subst, ◌<◌, arith, append-nil, length-append}
-use Rattle.std.specs.Prelude.{IfSome}
+use Rattle.std.proofs.Common.{◌≡◌, ℕ, ◌+◌, ◌-◌, ◌≤◌, List, [], ◌++◌, Option, Some, None, Result, Ok, Err, length, take, drop, refl, sym, ap, ◌∙◌, subst, arith, inl, inr, append-nil, length-append}
+use Rattle.std.specs.Prelude.{IfSome, ◌⊎◌}
 use Rattle.std.proofs.lemmas.List.{take-append-le, take_all, take-append-drop}
 use Rattle.std.specs.Io.KnownBytes.{append_known}
 use Rattle.flow_ports.specs.Flow.{Gives}
+use Rattle.flow_ports.proofs.FlowLemmas.{append_known-nil}
 use Rattle.ev_term.specs.Lines.{ended}
 use Rattle.pattern_meaning.specs.Patterns.{RuleSet, rules_of_pair}
 use Rattle.pattern_meaning.specs.declared.rules.PairRule.{PairRule}
-use Rattle.canonical_forms.specs.RuleFile.{rule_held, rule_held_short}
 use Rattle.etalis_cli.specs.Output.{start, replies, out_text}
 use Rattle.etalis_cli.specs.Outcome.{Served}
-use Rattle.etalis_cli.specs.Run.{PartFor, OnRules}
+use Rattle.etalis_cli.specs.Rules.{Accepted, IsRefused, HasNone}
+use Rattle.etalis_cli.specs.declared.refusals.Refusal.{Refusal}
+use Rattle.etalis_cli.specs.Run.{PartFor, OnRules, file_of, status_of, IsServeCause}
 use Rattle.etalis_cli.specs.declared.serving.ServeFault.{ServeFault}
-use Rattle.etalis_cli.specs.declared.serving.ServeFault.TheVariants.{Read, Write, Memory, TooLong}
+use Rattle.etalis_cli.specs.declared.serving.ServeFault.TheVariants as fault
+use Rattle.etalis_cli.specs.declared.status.Status.TheVariants as status
+use Rattle.etalis_cli.specs.declared.status.Cause.{Cause}
+use Rattle.etalis_cli.specs.declared.status.Cause.TheVariants.{Done, Usage, RulesRefused, RulesUnread, InputUnread, WriteFault, Memory, TooLong}
+use Rattle.etalis_cli.proofs.RuleLaws.{same_Some, one_rule}
 use Rattle.etalis_cli.proofs.ServeLaws.{out_begins, replies_shorter}
 
 module _ (rs : RuleSet) where
@@ -42,10 +48,10 @@ module _ (rs : RuleSet) where
   sent_part : (r : Result (Unit {0}) ServeFault) (left got got' : Option (List ℕ)) (rose : Type 0) (done ys : List ℕ) → Served rs r left (Some ys) got got' rose done
       → (n : ℕ) × Gives got got' (take n (out_text rs (done ++ ys))) × (length (replies (start rs) (ended (take (length done - 8192) done))) ≤ n)
   sent_part (Ok x) left got got' rose done ys s = sent_all got got' done ys s.ends.1 s.ends.2
-  sent_part (Err Read) left got got' rose done ys s = sent_whole got got' done ys s.ends.1
-  sent_part (Err Write) left got got' rose done ys s = s.ends.1.part
-  sent_part (Err Memory) left got got' rose done ys s = s.ends.part
-  sent_part (Err TooLong) left got got' rose done ys s = s.ends.1.part
+  sent_part (Err fault.Read) left got got' rose done ys s = sent_whole got got' done ys s.ends.1
+  sent_part (Err fault.Write) left got got' rose done ys s = s.ends.1.part
+  sent_part (Err fault.Memory) left got got' rose done ys s = s.ends.part
+  sent_part (Err fault.TooLong) left got got' rose done ys s = s.ends.1.part
 
   -- the bytes that were taken, from those that are told
   taken_is : (xs ys done : List ℕ) → xs ≡ done ++ ys → (length xs - length ys ≡ length done) × (take (length done - 8192) xs ≡ take (length done - 8192) done)
@@ -54,35 +60,79 @@ module _ (rs : RuleSet) where
       let le : length done - 8192 ≤ length done = omega arith in
       (omega (arith, len), ap (take (length done - 8192)) e ∙ take-append-le (length done - 8192) done ys le)
 
-  same_some : (xs ys : List ℕ) → Some xs ≡ Some ys → xs ≡ ys
-  same_some xs ys e = cc
-
   pub part_for : (r : Result (Unit {0}) ServeFault) (left left' got got' : Option (List ℕ)) (rose : Type 0) (done : List ℕ) → Served rs r left left' got got' rose done → PartFor rs left left' got got'
   part_for r None left' got got' rose done s = tt
   part_for r (Some xs) None got got' rose done s = tt
   part_for r (Some xs) (Some ys) got got' rose done s =
-      let e : xs ≡ done ++ ys = same_some xs (done ++ ys) s.takes in
+      let e : xs ≡ done ++ ys = same_Some _ _ s.takes in
       let (count, front) = taken_is xs ys done e in
       let (n, sent, enough) = sent_part r (Some xs) got got' rose done ys s in
       (n, sent ∙ ap (λ x. append_known got (take n (out_text rs x))) (sym e), rw (count, front) enough)
 
 -- ---- the rules of the file
 
--- a file that holds this rule
-pub on_rules : (file : Option (List ℕ)) (rule : PairRule) (P : RuleSet → Type 0) → IfSome file (λ f. rule_held f ≡ Some rule) → P (rules_of_pair rule) → OnRules file P
-on_rules None rule P held p = tt
-on_rules (Some f) rule P held p = subst (λ o. IfSome o (λ r. P (rules_of_pair r))) (sym held) p
+on_rules : (file : Option (List ℕ)) (rule : PairRule) (P : RuleSet → Type 0) → IfSome file (λ f. Accepted f rule) → P (rules_of_pair rule) → OnRules file P
+on_rules None rule P accepted p = tt
+on_rules (Some f) rule P accepted p = λ other a. subst (λ r. P (rules_of_pair r)) (one_rule f rule other accepted a) p
 
--- whatever the rules are
-pub any_rules : (file : Option (List ℕ)) (P : RuleSet → Type 0) → ((rs : RuleSet) → P rs) → OnRules file P
+any_rules : (file : Option (List ℕ)) (P : RuleSet → Type 0) → ((rs : RuleSet) → P rs) → OnRules file P
 any_rules None P p = tt
-any_rules (Some f) P p = at (rule_held f)
-  where
-    at : (o : Option PairRule) → IfSome o (λ r. P (rules_of_pair r))
-    at None = tt
-    at (Some r) = p (rules_of_pair r)
+any_rules (Some f) P p = λ rule accepted. p (rules_of_pair rule)
 
--- a file over the limit
-pub long_holds_none : (file : Option (List ℕ)) → IfSome file (λ f. 1048576 < length f) → IfSome file (λ f. rule_held f ≡ None)
-long_holds_none None long = tt
-long_holds_none (Some f) long = rule_held_short f long
+-- what holds of the rule that was read
+pub on_read : (asked : Option (List ℕ)) (name : List ℕ) (holds : List ℕ → Option (List ℕ)) (rule : PairRule) (P : RuleSet → Type 0) → asked ≡ Some name
+    → IfSome (holds name) (λ f. Accepted f rule) → P (rules_of_pair rule) → OnRules (file_of asked holds) P
+on_read asked name holds rule P e accepted p = subst (λ o. OnRules (file_of o holds) P) (sym e) (on_rules (holds name) rule P accepted p)
+
+pub long_on_read : (asked : Option (List ℕ)) (name : List ℕ) (holds : List ℕ → Option (List ℕ)) (rule : PairRule) (Q : Type 0) (P : RuleSet → Type 0) → asked ≡ Some name
+    → IfSome (holds name) (λ f. Accepted f rule) → Q ⊎ P (rules_of_pair rule) → Q ⊎ OnRules (file_of asked holds) P
+long_on_read asked name holds rule Q P e accepted (inl q) = inl q
+long_on_read asked name holds rule Q P e accepted (inr p) = inr (on_read asked name holds rule P e accepted p)
+
+-- nothing was taken, and nothing went out
+none_sent : (rs : RuleSet) (left got : Option (List ℕ)) → PartFor rs left left got got
+none_sent rs None got = tt
+none_sent rs (Some xs) got =
+    let none : length xs - length xs - 8192 ≡ 0 = omega arith in
+    (0, sym (append_known-nil got), subst (λ n. length (replies (start rs) (ended (take n xs))) ≤ 0) (sym none) (omega arith))
+
+pub none_for : (file left got : Option (List ℕ)) → OnRules file (λ rs. PartFor rs left left got got)
+none_for file left got = any_rules file (λ rs. PartFor rs left left got got) (λ rs. none_sent rs left got)
+
+-- a file that was read and refused
+pub refused_read : (held : Option (List ℕ)) (bytes slice : List ℕ) → IfSome held (λ f. bytes ≡ f) → slice ≡ bytes → (cause : Refusal) → IsRefused slice cause × HasNone slice
+    → IfSome held (λ f. IsRefused f cause × HasNone f)
+refused_read None bytes slice e f cause p = tt
+refused_read (Some file) bytes slice e f cause p = subst (λ x. IsRefused x cause × HasNone x) (f ∙ e) p
+
+-- ---- the cause that a status tells
+
+pub done_cause : (c : Cause) → status_of c ≡ status.Done → c ≡ Done
+done_cause Done e = refl
+done_cause Usage e = cc
+done_cause (RulesRefused r) e = cc
+done_cause RulesUnread e = cc
+done_cause InputUnread e = cc
+done_cause WriteFault e = cc
+done_cause Memory e = cc
+done_cause TooLong e = cc
+
+pub unread_cause : (c : Cause) → IsServeCause c → status_of c ≡ status.ReadFault → c ≡ InputUnread
+unread_cause Done s e = cc
+unread_cause Usage s e = absurd s
+unread_cause (RulesRefused r) s e = absurd s
+unread_cause RulesUnread s e = absurd s
+unread_cause InputUnread s e = refl
+unread_cause WriteFault s e = cc
+unread_cause Memory s e = cc
+unread_cause TooLong s e = cc
+
+pub long_cause : (c : Cause) → status_of c ≡ status.TooLong → c ≡ TooLong
+long_cause Done e = cc
+long_cause Usage e = cc
+long_cause (RulesRefused r) e = cc
+long_cause RulesUnread e = cc
+long_cause InputUnread e = cc
+long_cause WriteFault e = cc
+long_cause Memory e = cc
+long_cause TooLong e = refl

@@ -3,4 +3,5 @@ pub mod Rises
 pub mod StandsFor
 pub mod Feeds
 pub mod Outcome
+pub mod Rules
 pub mod Run

@@ -2,11 +2,13 @@
 use Rattle.std.specs.Prelude.{◌≡◌, ℕ, ◌-◌, ◌⊎◌, Bool, true, not, ◌&&◌, ◌==◌, if◌then◌else◌, List, [], ◌∷◌, Option, Some, None, Result, Ok, Err, IfSome, ◌≤◌, String, string_bytes, length, take, codes, ⊤}
 use Rattle.std.specs.Str.{bytes_eq}
 use Rattle.std.specs.declared.alloc.Global.{Global}
-use Rattle.flow_ports.specs.Flow.{Gives}
+use Rattle.flow_ports.specs.Flow.{Gives, GivesPart}
 use Rattle.ev_term.specs.Lines.{ended}
 use Rattle.pattern_meaning.specs.Patterns.{RuleSet, rules_of_pair}
-use Rattle.canonical_forms.specs.RuleFile.{rule_held}
+use Rattle.pattern_meaning.specs.declared.rules.PairRule.{PairRule}
 use Rattle.etalis_cli.specs.Output.{start, replies, out_text}
+use Rattle.etalis_cli.specs.Rules.{Accepted, IsRefused, refusal_note}
+use Rattle.etalis_cli.specs.declared.refusals.Refusal.{Refusal}
 use Rattle.etalis_cli.specs.declared.serving.ServeFault.{ServeFault}
 use Rattle.etalis_cli.specs.declared.serving.ServeFault.TheVariants as fault
 use Rattle.etalis_cli.specs.declared.status.Status.{Status}
@@ -37,9 +39,9 @@ abbrev pub MayAsk : Option (List ℕ) → (List ℕ → Bool) → Type 0
 MayAsk None serves = ⊤
 MayAsk (Some name) serves = serves name ≡ true
 
--- P holds of the rules that the file holds, where it is told and holds some
+-- P holds of the rules that the file is accepted as, where it is told and accepted
 abbrev pub OnRules : Option (List ℕ) → (RuleSet → Type 0) → Type 0
-OnRules file P = IfSome file (λ f. IfSome (rule_held f) (λ rule. P (rules_of_pair rule)))
+OnRules file P = IfSome file (λ f. (rule : PairRule) → Accepted f rule → P (rules_of_pair rule))
 
 -- P holds of the bytes that were taken, where they are told
 abbrev pub OnTaken : Option (List ℕ) → Option (List ℕ) → (List ℕ → Type 0) → Type 0
@@ -76,7 +78,7 @@ cause_of (Err fault.TooLong) = TooLong
 abbrev pub IsServeCause : Cause → Type 0
 IsServeCause Done = ⊤
 IsServeCause Usage = ⊥
-IsServeCause RulesRefused = ⊥
+IsServeCause (RulesRefused refusal) = ⊥
 IsServeCause RulesUnread = ⊥
 IsServeCause InputUnread = ⊤
 IsServeCause WriteFault = ⊤
@@ -86,7 +88,7 @@ IsServeCause TooLong = ⊤
 abbrev pub status_of : Cause → Status
 status_of Done = status.Done
 status_of Usage = status.Usage
-status_of RulesRefused = status.RulesRefused
+status_of (RulesRefused refusal) = status.RulesRefused
 status_of RulesUnread = status.ReadFault
 status_of InputUnread = status.ReadFault
 status_of WriteFault = status.WriteFault
@@ -97,19 +99,40 @@ status_of TooLong = status.TooLong
 abbrev pub note_of : Cause → List ℕ
 note_of Done = []
 note_of Usage = codes "etalis: usage: etalis MODE RULES [--late N] [--seed N] [--lines N]\n"
-note_of RulesRefused = codes "etalis: rules: unbuilt\n"
+note_of (RulesRefused refusal) = refusal_note refusal
 note_of RulesUnread = codes "etalis: cannot read rules\n"
 note_of InputUnread = codes "etalis: cannot read input\n"
 note_of WriteFault = codes "etalis: cannot write\n"
 note_of Memory = codes "etalis: out of memory\n"
 note_of TooLong = codes "etalis: input too long\n"
 
--- a text is the note of a status, where the count of the shelf or that of the source may have risen
-abbrev pub IsNoteOf : Status → List ℕ → Type 0 → Type 0 → Type 0
-IsNoteOf status.Done text shelf input = text ≡ []
-IsNoteOf status.Usage text shelf input = text ≡ codes "etalis: usage: etalis MODE RULES [--late N] [--seed N] [--lines N]\n"
-IsNoteOf status.RulesRefused text shelf input = text ≡ codes "etalis: rules: unbuilt\n"
-IsNoteOf status.ReadFault text shelf input = (shelf × (text ≡ codes "etalis: cannot read rules\n")) ⊎ (input × (text ≡ codes "etalis: cannot read input\n"))
-IsNoteOf status.WriteFault text shelf input = text ≡ codes "etalis: cannot write\n"
-IsNoteOf status.Memory text shelf input = text ≡ codes "etalis: out of memory\n"
-IsNoteOf status.TooLong text shelf input = text ≡ codes "etalis: input too long\n"
+-- the text went out, or some first part of it where a count rose
+abbrev pub Told : Option (List ℕ) → Option (List ℕ) → Type 0 → List ℕ → Type 0
+Told got got' rose text = Gives got got' text ⊎ (rose × GivesPart got got' text)
+
+-- a refusal for a cause comes where the file, if told, is refused for it
+abbrev pub RefusedAs : Cause → Option (List ℕ) → Type 0
+RefusedAs (RulesRefused refusal) file = IfSome file (λ f. IsRefused f refusal)
+RefusedAs Done file = ⊤
+RefusedAs Usage file = ⊤
+RefusedAs RulesUnread file = ⊤
+RefusedAs InputUnread file = ⊤
+RefusedAs WriteFault file = ⊤
+RefusedAs Memory file = ⊤
+RefusedAs TooLong file = ⊤
+
+-- the text is the note of what the file, if told, is refused for
+pub record IsRefusalNote (text : List ℕ) (file : Option (List ℕ)) : Type 0 where
+  pub refusal : Refusal
+  pub cause : IfSome file (λ f. IsRefused f refusal)
+  pub note : text ≡ refusal_note refusal
+
+-- a text is the note of a status with this file, where the count of the shelf or that of the source may have risen
+abbrev pub IsNoteOf : Status → List ℕ → Option (List ℕ) → Type 0 → Type 0 → Type 0
+IsNoteOf status.Done text file shelf input = text ≡ []
+IsNoteOf status.Usage text file shelf input = text ≡ codes "etalis: usage: etalis MODE RULES [--late N] [--seed N] [--lines N]\n"
+IsNoteOf status.RulesRefused text file shelf input = IsRefusalNote text file
+IsNoteOf status.ReadFault text file shelf input = (shelf × (text ≡ codes "etalis: cannot read rules\n")) ⊎ (input × (text ≡ codes "etalis: cannot read input\n"))
+IsNoteOf status.WriteFault text file shelf input = text ≡ codes "etalis: cannot write\n"
+IsNoteOf status.Memory text file shelf input = text ≡ codes "etalis: out of memory\n"
+IsNoteOf status.TooLong text file shelf input = text ≡ codes "etalis: input too long\n"

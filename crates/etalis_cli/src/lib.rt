@@ -1,14 +1,18 @@
 //! The top call: lines from a source, replies to a sink.
 #![tactic(auto)]
 
+mod accepting;
 mod changes;
 mod feeding;
+mod notes;
+mod refusals;
 mod replies;
 mod serving;
 mod session;
 mod status;
 mod top;
 
+pub use accepting::files_have_one_rule;
 pub use serving::{ServeFault, serve};
 pub use session::Session;
 pub use status::Status;

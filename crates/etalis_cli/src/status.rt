@@ -1,4 +1,5 @@
 // How a run ends.
+use crate::refusals::Refusal;
 
 /// The statuses, in the order of the exit statuses from 0 to 6.
 #[derive(Clone, Copy, Debug, PartialEq, Eq)]
@@ -17,7 +18,7 @@ pub enum Status {
 pub enum Cause {
     Done,
     Usage,
-    RulesRefused,
+    RulesRefused(Refusal),
     RulesUnread,
     InputUnread,
     WriteFault,

@@ -1,22 +1,22 @@
 // The top call.
-ghost use Rattle.std.specs.Prelude.{◌≡◌, ◌^◌, ◌≤◌, ◌↔◌, ◌⊎◌, ℕ, List, Some, None, true, IsSome, IfSome, IfOk, OnOk, IfErr, IsErrOf, MatchOption, length};
+ghost use Rattle.std.specs.Prelude.{◌≡◌, ◌^◌, ◌≤◌, ◌↔◌, ◌⊎◌, ℕ, List, Some, None, true, IfSome, IfOk, OnOk, IfErr, IsErrOf, MatchOption, length};
 ghost use Rattle.flow_ports.specs.Flow.{Rose, Gives, GivesPart, IsAtEnd};
 ghost use Rattle.ev_term.specs.Lines.{ended};
 ghost use Rattle.pattern_meaning.specs.Patterns.{rules_of_pair};
-ghost use Rattle.canonical_forms.specs.RuleFile.{rule_held};
 ghost use Rattle.etalis_cli.specs.Output.{start, replies, out_text};
 ghost use Rattle.etalis_cli.specs.Outcome.{Served};
-ghost use Rattle.etalis_cli.specs.Run.{form, is_name, cause_of, status_of, note_of, IsNoteOf, IsServeCause, PartFor, file_of, MayAsk, OnRules, OnTaken, WasServed};
+ghost use Rattle.etalis_cli.specs.Rules.{Accepted, IsAccepted, HasNone, IsRefused};
+ghost use Rattle.etalis_cli.specs.Run.{form, is_name, cause_of, status_of, IsNoteOf, IsServeCause, PartFor, file_of, MayAsk, OnRules, OnTaken, WasServed, RefusedAs};
 
+use crate::accepting::{AcceptFault, MOST_BYTES, accept};
+use crate::notes::tell;
+use crate::refusals::Refusal;
 use crate::serving::{ServeFault, serve};
 use crate::session::Session;
 use crate::status::{Cause, Status};
-use canonical_forms::read_rule_file;
-use flow_ports::{Shelf, Sink, Source, WholeFault, read_whole, write_whole};
+use flow_ports::{Shelf, Sink, Source, WholeFault, read_whole};
 use pattern_meaning::PairRule;
 use std::alloc::Global;
-
-const FILE_LIMIT: usize = 1_048_576;
 
 // The name of the rule file, where the words are in form.
 fn file_name(words: &[String]) -> Option<&str>
@@ -46,23 +46,24 @@ fn is_name(name: &[u8]) -> bool
 // Reads the rule file. An `Err` is the cause to end with.
 fn read_rules<S: Shelf>(alloc: Global, shelf: &mut S, name: &str) -> Result<PairRule, Cause>
     requires { S.serves shelf.old name.now ≡ true }
-    ensures held { IfOk result (λ rule. IfSome (S.holds shelf.old name.now) (λ file. rule_held file ≡ Some rule)) }
+    ensures accepted { IfOk result (λ rule. IfSome (S.holds shelf.old name.now) (λ file. Accepted file rule)) }
     ensures count { OnOk result (S.faults shelf.new ≡ S.faults shelf.old) }
     ensures cause { IfErr result (λ cause.
         ((cause ≡ Cause.RulesUnread) × Rose (S.faults shelf.old) (S.faults shelf.new))
-        ⊎ (((cause ≡ Cause.RulesRefused) × IfSome (S.holds shelf.old name.now) (λ file. rule_held file ≡ None))
+        ⊎ (((refusal : Refusal) × (cause ≡ Cause.RulesRefused refusal)
+        × IfSome (S.holds shelf.old name.now) (λ file. IsRefused file refusal × HasNone file))
         ⊎ (cause ≡ Cause.Memory))) }
 {
-    let file = match read_whole(alloc, shelf, name, FILE_LIMIT) {
+    let file = match read_whole(alloc, shelf, name, MOST_BYTES) {
         Ok(file) => file,
         Err(WholeFault::Failed) => return Err(Cause::RulesUnread),
-        Err(WholeFault::TooLong) => return Err(Cause::RulesRefused),
+        Err(WholeFault::TooLong) => return Err(Cause::RulesRefused(Refusal::TooLong)),
         Err(WholeFault::Memory) => return Err(Cause::Memory),
     };
-    match read_rule_file(alloc, &file) {
-        Ok(Some(rule)) => Ok(rule),
-        Ok(None) => Err(Cause::RulesRefused),
-        Err(_) => Err(Cause::Memory),
+    match accept(alloc, &file) {
+        Ok(rule) => Ok(rule),
+        Err(AcceptFault::Refused(refusal)) => Err(Cause::RulesRefused(refusal)),
+        Err(AcceptFault::Memory) => Err(Cause::Memory),
     }
 }
 
@@ -134,12 +135,12 @@ fn work<S: Shelf, I: Source, O: Sink>(
         IfSome (I.left input.old) (λ bytes. Gives (O.got out.old) (O.got out.new) (out_text rules bytes))) }
     ensures read_to_end { status_of result ≡ Status.Done → IsAtEnd (I.left input.new) }
     ensures accepted { WasServed (status_of result)
-        → IfSome (file_of (form words.now) (S.holds shelf.old)) (λ file. IsSome (rule_held file)) }
+        → IfSome (file_of (form words.now) (S.holds shelf.old)) IsAccepted }
 
     ensures usage { (status_of result ≡ Status.Usage) ↔ (form words.now ≡ None) }
     ensures refused { status_of result ≡ Status.RulesRefused
-        → IfSome (file_of (form words.now) (S.holds shelf.old)) (λ file. rule_held file ≡ None) }
-    ensures refuses { IfSome (file_of (form words.now) (S.holds shelf.old)) (λ file. rule_held file ≡ None
+        → IfSome (file_of (form words.now) (S.holds shelf.old)) HasNone }
+    ensures refuses { IfSome (file_of (form words.now) (S.holds shelf.old)) (λ file. HasNone file
         → (status_of result ≡ Status.RulesRefused) ⊎ ((status_of result ≡ Status.Memory)
         ⊎ ((status_of result ≡ Status.ReadFault) × Rose (S.faults shelf.old) (S.faults shelf.new)))) }
     ensures write { status_of result ≡ Status.WriteFault → Rose (O.faults out.old) (O.faults out.new) }
@@ -150,11 +151,11 @@ fn work<S: Shelf, I: Source, O: Sink>(
 
     ensures no_form { form words.now ≡ None → O.got out.new ≡ O.got out.old }
     ensures unaccepted { IfSome (file_of (form words.now) (S.holds shelf.old)) (λ file.
-        rule_held file ≡ None → O.got out.new ≡ O.got out.old) }
+        HasNone file → O.got out.new ≡ O.got out.old) }
     ensures rules_unread { status_of result ≡ Status.ReadFault
         → (Rose (S.faults shelf.old) (S.faults shelf.new) × (O.got out.new ≡ O.got out.old) × (I.left input.new ≡ I.left input.old))
         ⊎ (Rose (I.faults input.old) (I.faults input.new) × (S.faults shelf.new ≡ S.faults shelf.old)
-        × IfSome (file_of (form words.now) (S.holds shelf.old)) (λ file. IsSome (rule_held file))) }
+        × IfSome (file_of (form words.now) (S.holds shelf.old)) IsAccepted) }
     ensures part { OnRules (file_of (form words.now) (S.holds shelf.old)) (λ rules.
         PartFor rules (I.left input.old) (I.left input.new) (O.got out.old) (O.got out.new)) }
     ensures replied { status_of result ≡ Status.ReadFault → OnRules (file_of (form words.now) (S.holds shelf.old)) (λ rules.
@@ -165,6 +166,7 @@ fn work<S: Shelf, I: Source, O: Sink>(
         OnTaken (I.left input.old) (I.left input.new) (λ taken.
         Gives (O.got out.old) (O.got out.new) (replies (start rules) (ended taken)))) }
 
+    ensures refused_as { RefusedAs result (file_of (form words.now) (S.holds shelf.old)) }
     ensures rules_count { result ≡ Cause.RulesUnread → Rose (S.faults shelf.old) (S.faults shelf.new) }
     ensures input_count { result ≡ Cause.InputUnread → Rose (I.faults input.old) (I.faults input.new) }
 {
@@ -195,12 +197,12 @@ pub fn run<S: Shelf, I: Source, O: Sink, N: Sink>(
         IfSome (I.left input.old) (λ bytes. Gives (O.got out.old) (O.got out.new) (out_text rules bytes))) }
     ensures read_to_end { result ≡ Status.Done → IsAtEnd (I.left input.new) }
     ensures accepted { WasServed result
-        → IfSome (file_of (form words.now) (S.holds shelf.old)) (λ file. IsSome (rule_held file)) }
+        → IfSome (file_of (form words.now) (S.holds shelf.old)) IsAccepted }
 
     ensures usage { (result ≡ Status.Usage) ↔ (form words.now ≡ None) }
     ensures refused { result ≡ Status.RulesRefused
-        → IfSome (file_of (form words.now) (S.holds shelf.old)) (λ file. rule_held file ≡ None) }
-    ensures refuses { IfSome (file_of (form words.now) (S.holds shelf.old)) (λ file. rule_held file ≡ None
+        → IfSome (file_of (form words.now) (S.holds shelf.old)) HasNone }
+    ensures refuses { IfSome (file_of (form words.now) (S.holds shelf.old)) (λ file. HasNone file
         → (result ≡ Status.RulesRefused) ⊎ ((result ≡ Status.Memory)
         ⊎ ((result ≡ Status.ReadFault) × Rose (S.faults shelf.old) (S.faults shelf.new)))) }
     ensures write { result ≡ Status.WriteFault → Rose (O.faults out.old) (O.faults out.new) }
@@ -211,11 +213,11 @@ pub fn run<S: Shelf, I: Source, O: Sink, N: Sink>(
 
     ensures no_form { form words.now ≡ None → O.got out.new ≡ O.got out.old }
     ensures unaccepted { IfSome (file_of (form words.now) (S.holds shelf.old)) (λ file.
-        rule_held file ≡ None → O.got out.new ≡ O.got out.old) }
+        HasNone file → O.got out.new ≡ O.got out.old) }
     ensures rules_unread { result ≡ Status.ReadFault
         → (Rose (S.faults shelf.old) (S.faults shelf.new) × (O.got out.new ≡ O.got out.old) × (I.left input.new ≡ I.left input.old))
         ⊎ (Rose (I.faults input.old) (I.faults input.new) × (S.faults shelf.new ≡ S.faults shelf.old)
-        × IfSome (file_of (form words.now) (S.holds shelf.old)) (λ file. IsSome (rule_held file))) }
+        × IfSome (file_of (form words.now) (S.holds shelf.old)) IsAccepted) }
     ensures part { OnRules (file_of (form words.now) (S.holds shelf.old)) (λ rules.
         PartFor rules (I.left input.old) (I.left input.new) (O.got out.old) (O.got out.new)) }
     ensures replied { result ≡ Status.ReadFault → OnRules (file_of (form words.now) (S.holds shelf.old)) (λ rules.
@@ -227,7 +229,7 @@ pub fn run<S: Shelf, I: Source, O: Sink, N: Sink>(
         Gives (O.got out.old) (O.got out.new) (replies (start rules) (ended taken)))) }
 
     ensures note { (text : List ℕ)
-        × IsNoteOf result text (Rose (S.faults shelf.old) (S.faults shelf.new)) (Rose (I.faults input.old) (I.faults input.new))
+        × IsNoteOf result text (file_of (form words.now) (S.holds shelf.old)) (Rose (S.faults shelf.old) (S.faults shelf.new)) (Rose (I.faults input.old) (I.faults input.new))
         × (Gives (N.got notes.old) (N.got notes.new) text
         ⊎ (Rose (N.faults notes.old) (N.faults notes.new) × GivesPart (N.got notes.old) (N.got notes.new) text)) }
 {
@@ -243,37 +245,10 @@ fn status_of(cause: Cause) -> Status
     match cause {
         Cause::Done => Status::Done,
         Cause::Usage => Status::Usage,
-        Cause::RulesRefused => Status::RulesRefused,
+        Cause::RulesRefused(_) => Status::RulesRefused,
         Cause::RulesUnread | Cause::InputUnread => Status::ReadFault,
         Cause::WriteFault => Status::WriteFault,
         Cause::Memory => Status::Memory,
         Cause::TooLong => Status::TooLong,
-    }
-}
-
-// What goes to the notes.
-fn note_text(cause: Cause) -> &'static [u8]
-    ensures { result.now ≡ note_of cause }
-{
-    match cause {
-        Cause::Done => b"",
-        Cause::Usage => b"etalis: usage: etalis MODE RULES [--late N] [--seed N] [--lines N]\n",
-        Cause::RulesRefused => b"etalis: rules: unbuilt\n",
-        Cause::RulesUnread => b"etalis: cannot read rules\n",
-        Cause::InputUnread => b"etalis: cannot read input\n",
-        Cause::WriteFault => b"etalis: cannot write\n",
-        Cause::Memory => b"etalis: out of memory\n",
-        Cause::TooLong => b"etalis: input too long\n",
-    }
-}
-
-// Writes the note of a cause. A failure is dropped.
-fn tell<N: Sink>(notes: &mut N, cause: Cause)
-    ensures { Gives (N.got notes.old) (N.got notes.new) (note_of cause)
-        ⊎ (Rose (N.faults notes.old) (N.faults notes.new) × GivesPart (N.got notes.old) (N.got notes.new) (note_of cause)) }
-{
-    match write_whole(notes, note_text(cause)) {
-        Ok(()) => {}
-        Err(_) => {}
     }
 }

@@ -1,7 +1,9 @@
 // Single calls on their happy path, with ample memory.
 use ev_bind::{Binding, match_atom};
-use ev_term::{Atom, Event, Name, Pat, PatAtom, Pats, Slot, Term, Terms, atom_text, term_text};
+use ev_term::{Atom, Event, Name, Op, Pat, PatAtom, Pats, Slot, Term, Terms, atom_text, term_text};
 use pattern_meaning::{PairRule, scratch_pair};
+use rule_ast::{Pattern, Statement};
+use rule_parser::parse;
 use std::alloc::{AllocError, Global};
 use std::test::Fail;
 
@@ -79,5 +81,20 @@ fn a_pair_is_found_from_scratch(rt: HostRuntime) -> Result<(), Fail> {
     let mut out = Vec::new(alloc);
     atom_text(&detection.atom, &mut out)?;
     assert_eq!(rt; out.as_slice(), b"ab(7)".as_slice());
+    Ok(())
+}
+
+#[test]
+fn a_rule_is_parsed(rt: HostRuntime) -> Result<(), Fail> {
+    let text = "ab(Y) <- a(X) SEQ b(X,Y).\nshow ab/1.";
+    let rules = parse(rt.alloc(), text).expect(&rt, "rules");
+    assert_eq!(rt; rules.statements.len(), 2);
+    assert!(rt;
+        matches!(
+            &rules.statements[0],
+            Statement::Rule(rule) if rule.vars.len() == 2 && matches!(&rule.body, Pattern::Both(Op::Seq, _, _))
+        )
+    );
+    assert!(rt; matches!(&rules.statements[1], Statement::Show(_)));
     Ok(())
 }

@@ -65,27 +65,39 @@ fn run_over(
 
 #[test]
 fn documented_outputs(rt: HostRuntime) -> Result<(), Fail> {
-    let rows: [(&[u8], &[u8]); 6] = [
-        (b"+ 1 a(7)\n+ 2 b(7)\n", b"ok 1\n+ 1 2 ab(7)\nok 2\nend 2\n"),
-        (b"+ 1 a(7)\n+ 1 b(7)\n", b"ok 1\nok 2\nend 2\n"),
+    let rows: [(&[u8], &[u8], &[u8]); 7] = [
         (
+            AB,
+            b"+ 1 a(7)\n+ 2 b(7)\n",
+            b"ok 1\n+ 1 2 ab(7)\nok 2\nend 2\n",
+        ),
+        (AB, b"+ 1 a(7)\n+ 1 b(7)\n", b"ok 1\nok 2\nend 2\n"),
+        (
+            AB,
             b"+ 5 ab(9)\n+ 5 ab(9)\n",
             b"+ 5 5 ab(9)\nok 1\nok 2\nend 2\n",
         ),
-        (b"", b"end 0\n"),
+        (AB, b"", b"end 0\n"),
         (
+            AB,
             b"+ 1 a(\"x,\\n\")\n+ 2 a(f(g,-2))\n+ 3 b(\"x,\\n\")\n+ 3 b(f(g, -2))\n+ 4 b(f(g,-2))\n",
             b"ok 1\nok 2\n+ 1 3 ab(\"x,\\n\")\nok 3\nno 4 unbuilt\n+ 2 4 ab(f(g,-2))\nok 5\nend 5\n",
         ),
         (
+            AB,
             b"+ 1 a(7)\n- 1 a(7)\n+ 1 a(7)\r\n+ 2 b(7)",
             b"ok 1\nno 2 unbuilt\nok 3\n+ 1 2 ab(7)\nok 4\nend 4\n",
         ),
+        (
+            b"h <- a(_) SEQ b(\"x\").",
+            b"+ 1 a(f(2))\n+ 3 b(\"x\")\n",
+            b"ok 1\n+ 1 3 h\nok 2\nend 2\n",
+        ),
     ];
     for row in rows {
-        let ran = run_over(rt.alloc(), &["run", "r"], AB, row.0, CALM)?;
+        let ran = run_over(rt.alloc(), &["run", "r"], row.0, row.1, CALM)?;
         assert_eq!(rt; ran.status, Status::Done);
-        assert_eq!(rt; ran.out.bytes(), row.1);
+        assert_eq!(rt; ran.out.bytes(), row.2);
         assert_eq!(rt; ran.notes.bytes(), b"".as_slice());
     }
     Ok(())
@@ -197,16 +209,38 @@ fn each_fault_has_its_status_and_note(rt: HostRuntime) -> Result<(), Fail> {
 #[test]
 fn refusals_write_nothing_but_their_note(rt: HostRuntime) -> Result<(), Fail> {
     let usage: &[u8] = b"etalis: usage: etalis MODE RULES [--late N] [--seed N] [--lines N]\n";
-    let rows: [(&[&str], &[u8], Status, &[u8]); 6] = [
+    let refused = Status::RulesRefused;
+    let words: &[&str] = &["run", "r"];
+    let rows: [(&[&str], &[u8], Status, &[u8]); 11] = [
         (&["walk", "r"], AB, Status::Usage, usage),
         (&["run"], AB, Status::Usage, usage),
         (&["run", "-r"], AB, Status::Usage, usage),
         (&["run", "r", "s"], AB, Status::Usage, usage),
         (
-            &["run", "r"],
+            words,
             b"ab(X) <- a(Y) SEQ b(Y).\n",
-            Status::RulesRefused,
+            refused,
             b"etalis: rules: unbuilt\n",
+        ),
+        (words, b"h <- a OR b.", refused, b"etalis: rules: unbuilt\n"),
+        (
+            words,
+            b"h <- a SEQ.",
+            refused,
+            b"etalis: rules: syntax at 10\n",
+        ),
+        (words, b"a <- b", refused, b"etalis: rules: syntax at 6\n"),
+        (
+            words,
+            b"ab \xff",
+            refused,
+            b"etalis: rules: not utf-8 at 3\n",
+        ),
+        (
+            words,
+            b"h <- a(1,2,3,4,5,6,7,8,9,1,2,3,4,5,6,7,8) SEQ b.",
+            refused,
+            b"etalis: rules: limit term width at 38\n",
         ),
         (
             &["run", "s"],

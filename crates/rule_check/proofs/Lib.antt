@@ -1,1 +1,14 @@
 pub mod Safety
+pub mod FirstOutside
+pub mod FirstOffender
+pub mod Named
+pub mod CleanRules
+pub mod Places
+pub mod Gathered
+pub mod Seeing
+pub mod Visiting
+pub mod Placing
+pub mod NameGraph
+pub mod Cycling
+pub mod Ranking
+pub mod Verdicts

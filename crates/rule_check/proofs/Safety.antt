@@ -1,14 +1,12 @@
 -- No variable stands where it may not exactly where the plain statements hold.
 use Rattle.std.proofs.Common.{◌≡◌, ℕ, ◌+◌, Bool, true, false, not, ◌||◌, ◌&&◌, ◌==◌, cond, List, [], ◌∷◌, ◌++◌, map, refl, ap, sym, ◌∙◌}
-use Rattle.std.specs.List.{flat_map}
 use Rattle.std.proofs.lemmas.Bool.{and_parts, true≢false}
 use Rattle.std.proofs.lemmas.Bool.Decides.{Decides-eqb}
 use Rattle.rule_ast.specs.Trees.{PlainPattern, Atom, Both, Either, Where, Exact, Within, Not, PlainRule}
 use Rattle.rule_ast.specs.Vars.{atom_vars, vars, is_in, is_in-none, is_in-cons, is_in-append}
 use Rattle.rule_check.specs.Offenders.{outside, among, cond_vars, head_offenders, where_offenders, or_offenders, not_offenders}
-use Rattle.rule_check.specs.Sound.{AreAmong, IsHeadBound, AreWheresBound, AreOrsAlike, AreNotsBound, IsSafe, AreSafe}
-use Rattle.rule_check.specs.Faults.{name_of, rule_faults, variable_faults}
-use Rattle.rule_check.specs.declared.faults.CheckFault.{CheckFault}
+use Rattle.rule_check.specs.Sound.{AreWheresBound, AreOrsAlike, AreNotsBound, IsSafe, AreSafe}
+use Rattle.rule_check.specs.Faults.{rule_faults, variable_faults}
 
 module _ {A : Type 0} where
   pub append_none : (xs ys : List A) → xs ++ ys ≡ [] → (xs ≡ []) × (ys ≡ [])
@@ -95,7 +93,7 @@ wheres_back (Exact p q) h = wheres_back p h
 wheres_back (Within p q) h = wheres_back p h
 wheres_back (Not i b a) h =
     none_append (where_offenders i) (where_offenders b ++ where_offenders a) (wheres_back i h.0)
-        (none_append (where_offenders b) (where_offenders a) (wheres_back b h.1) (wheres_back a h.2))
+    (none_append (where_offenders b) (where_offenders a) (wheres_back b h.1) (wheres_back a h.2))
 
 -- ---- OR
 
@@ -109,9 +107,10 @@ ors may (Both op l r) e =
 ors may (Either l r) e =
     let f = append_none (or_offenders (λ s. may s && is_in s (vars r)) l) (or_offenders (λ s. may s && is_in s (vars l)) r) e in
     let x = ors (λ s. may s && is_in s (vars r)) l f.0 in
-    let y = ors (λ s. may s && is_in s (vars l)) r f.1 in
-    ((x.0, y.0, λ s h. (and_parts (may s) (is_in s (vars r)) (x.1 s h)).1, λ s h. (and_parts (may s) (is_in s (vars l)) (y.1 s h)).1),
-     all_both may (vars l) (vars r) (λ s h. (and_parts (may s) (is_in s (vars r)) (x.1 s h)).0) (λ s h. (and_parts (may s) (is_in s (vars l)) (y.1 s h)).0))
+    let y = ors (λ s. may s && is_in s (vars l)) r f.1 in (
+      (x.0, y.0, λ s h. (and_parts (may s) (is_in s (vars r)) (x.1 s h)).1, λ s h. (and_parts (may s) (is_in s (vars l)) (y.1 s h)).1),
+      all_both may (vars l) (vars r) (λ s h. (and_parts (may s) (is_in s (vars r)) (x.1 s h)).0) (λ s h. (and_parts (may s) (is_in s (vars l)) (y.1 s h)).0),
+    )
 ors may (Where p c) e = ors may p e
 ors may (Exact p q) e = ors may p e
 ors may (Within p q) e = ors may p e
@@ -128,14 +127,14 @@ ors_back may (Both op l r) h m =
     none_append (or_offenders may l) (or_offenders may r) (ors_back may l h.0 (all_left may (vars l) (vars r) m)) (ors_back may r h.1 (all_right may (vars l) (vars r) m))
 ors_back may (Either l r) h m =
     none_append (or_offenders (λ s. may s && is_in s (vars r)) l) (or_offenders (λ s. may s && is_in s (vars l)) r)
-        (ors_back (λ s. may s && is_in s (vars r)) l h.0 (λ s e. both_hold (may s) (is_in s (vars r)) (all_left may (vars l) (vars r) m s e) (h.2 s e)))
-        (ors_back (λ s. may s && is_in s (vars l)) r h.1 (λ s e. both_hold (may s) (is_in s (vars l)) (all_right may (vars l) (vars r) m s e) (h.3 s e)))
+    (ors_back (λ s. may s && is_in s (vars r)) l h.0 (λ s e. both_hold (may s) (is_in s (vars r)) (all_left may (vars l) (vars r) m s e) (h.2 s e)))
+    (ors_back (λ s. may s && is_in s (vars l)) r h.1 (λ s e. both_hold (may s) (is_in s (vars l)) (all_right may (vars l) (vars r) m s e) (h.3 s e)))
 ors_back may (Where p c) h m = ors_back may p h m
 ors_back may (Exact p q) h m = ors_back may p h m
 ors_back may (Within p q) h m = ors_back may p h m
 ors_back may (Not i b a) h m =
     none_append (or_offenders (λ s. true) i) (or_offenders may b ++ or_offenders may a) (ors_back (λ s. true) i h.0 (λ s e. refl))
-        (none_append (or_offenders may b) (or_offenders may a) (ors_back may b h.1 (all_left may (vars b) (vars a) m)) (ors_back may a h.2 (all_right may (vars b) (vars a) m)))
+    (none_append (or_offenders may b) (or_offenders may a) (ors_back may b h.1 (all_left may (vars b) (vars a) m)) (ors_back may a h.2 (all_right may (vars b) (vars a) m)))
 
 -- ---- NOT
 
@@ -173,8 +172,8 @@ nots_back may (Exact p q) h m = nots_back may p h m
 nots_back may (Within p q) h m = nots_back may p h m
 nots_back may (Not i b a) h m =
     none_append (not_offenders (λ s. is_in s (vars b) || is_in s (vars a)) i) (not_offenders may b ++ not_offenders may a)
-        (nots_back (λ s. is_in s (vars b) || is_in s (vars a)) i h.0 (λ s e. sym (is_in-append s (vars b) (vars a)) ∙ h.3 s e))
-        (none_append (not_offenders may b) (not_offenders may a) (nots_back may b h.1 (all_left may (vars b) (vars a) m)) (nots_back may a h.2 (all_right may (vars b) (vars a) m)))
+    (nots_back (λ s. is_in s (vars b) || is_in s (vars a)) i h.0 (λ s e. sym (is_in-append s (vars b) (vars a)) ∙ h.3 s e))
+    (none_append (not_offenders may b) (not_offenders may a) (nots_back may b h.1 (all_left may (vars b) (vars a) m)) (nots_back may a h.2 (all_right may (vars b) (vars a) m)))
 
 -- ---- rules
 
@@ -187,15 +186,15 @@ safe_rule number r e =
       head_bound = outside_none (among (vars r.body)) (atom_vars r.head) (map_none _ (head_offenders r) f.0);
       wheres_bound = wheres r.body (map_none _ (where_offenders r.body) g.0);
       ors_alike = (ors (λ s. true) r.body (map_none _ (or_offenders (λ s. true) r.body) h.0)).0;
-      nots_bound = (nots (λ s. true) r.body (map_none _ (not_offenders (λ s. true) r.body) h.1)).0
+      nots_bound = (nots (λ s. true) r.body (map_none _ (not_offenders (λ s. true) r.body) h.1)).0;
     }
 
 pub safe_rule_back : (number : ℕ) (r : PlainRule) → IsSafe r → rule_faults number r ≡ []
 safe_rule_back number r h =
     none_append _ _ (none_map _ (head_offenders r) (none_outside (among (vars r.body)) (atom_vars r.head) h.head_bound))
-        (none_append _ _ (none_map _ (where_offenders r.body) (wheres_back r.body h.wheres_bound))
-            (none_append _ _ (none_map _ (or_offenders (λ s. true) r.body) (ors_back (λ s. true) r.body h.ors_alike (λ s e. refl)))
-                (none_map _ (not_offenders (λ s. true) r.body) (nots_back (λ s. true) r.body h.nots_bound (λ s e. refl)))))
+    (none_append _ _ (none_map _ (where_offenders r.body) (wheres_back r.body h.wheres_bound))
+    (none_append _ _ (none_map _ (or_offenders (λ s. true) r.body) (ors_back (λ s. true) r.body h.ors_alike (λ s e. refl)))
+    (none_map _ (not_offenders (λ s. true) r.body) (nots_back (λ s. true) r.body h.nots_bound (λ s e. refl)))))
 
 -- no fault in their variables: each keeps its own statements
 pub safe_rules : (number : ℕ) (rules : List PlainRule) → variable_faults number rules ≡ [] → AreSafe rules

@@ -1,9 +1,9 @@
 -- The faults of a file of rules, in the order of testing.
-use Rattle.std.specs.Prelude.{ℕ, ◌≡◌, ◌+◌, true, get_or, List, [], ◌∷◌, ◌++◌, map}
+use Rattle.std.specs.Prelude.{ℕ, ◌≡◌, ◌+◌, true, get_or, ◌⊎◌, Result, Ok, Err, Some, List, [], ◌∷◌, ◌++◌, map}
 use Rattle.rule_ast.specs.Trees.{PlainRule}
 use Rattle.rule_check.specs.Offenders.{first, head_offenders, where_offenders, or_offenders, not_offenders}
 use Rattle.rule_check.specs.declared.faults.CheckFault.{CheckFault}
-use Rattle.rule_check.specs.declared.faults.CheckFault.TheVariants.{HeadUnbound, WhereUnbound, OrVariables, NotVariables}
+use Rattle.rule_check.specs.declared.faults.CheckFault.TheVariants.{HeadUnbound, WhereUnbound, OrVariables, NotVariables, Memory}
 
 -- what the variable of a slot is called
 abbrev pub name_of : PlainRule → ℕ → List ℕ
@@ -21,3 +21,8 @@ rule_faults number r =
 abbrev pub variable_faults : ℕ → List PlainRule → List CheckFault
 variable_faults number [] = []
 variable_faults number (r ∷ rules) = rule_faults number r ++ variable_faults (number + 1) rules
+
+-- what a test answers that gives the first of these faults, or passes where there is none
+abbrev pub IsVerdict : {A : Type 0} → Result A CheckFault → List CheckFault → Type 0
+IsVerdict (Ok x) faults = faults ≡ []
+IsVerdict (Err f) faults = (f ≡ Memory) ⊎ (first faults ≡ Some f)

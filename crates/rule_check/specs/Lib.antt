@@ -1,3 +1,8 @@
 pub mod Offenders
+pub mod Allowed
 pub mod Sound
+pub mod Names
+pub mod Graphs
+pub mod Cycles
 pub mod Faults
+pub mod Verdict

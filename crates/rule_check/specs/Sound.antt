@@ -1,5 +1,5 @@
 -- When a file of rules is sound, by a plain statement for each fault.
-use Rattle.std.specs.Prelude.{ℕ, ◌≡◌, Bool, true, List, [], ◌∷◌, ◌++◌}
+use Rattle.std.specs.Prelude.{ℕ, ◌≡◌, true, List, [], ◌∷◌, ◌++◌}
 use Rattle.rule_ast.specs.Trees.{PlainPattern, Atom, Both, Either, Where, Exact, Within, Not, PlainRule, PlainStatement, Clause, Show}
 use Rattle.rule_ast.specs.Vars.{atom_vars, vars, is_in}
 use Rattle.rule_check.specs.Offenders.{cond_vars}

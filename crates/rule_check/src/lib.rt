@@ -2,6 +2,21 @@
 //! on itself.
 #![tactic(auto)]
 
+mod bodies;
+mod checked;
+mod checking;
+mod dependencies;
 mod faults;
+mod gathering;
+mod graph;
+mod names;
+mod offenders;
+mod outside;
+mod variables;
 
+pub use checked::Checked;
+pub use checking::check;
 pub use faults::CheckFault;
+
+#[cfg(test)]
+mod tests;

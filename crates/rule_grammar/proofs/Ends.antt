@@ -1,24 +1,21 @@
 -- Each state can be completed to a text.
-use Rattle.std.proofs.Common.{◌≡◌, ℕ, ◌+◌, List, [], ◌∷◌, refl, sym, ap, ◌∙◌}
-use Rattle.ev_term.specs.declared.operators.Op.{Op}
-use Rattle.rule_ast.specs.declared.conditions.Cmp.{Cmp}
+use Rattle.std.proofs.Common.{◌≡◌, ℕ, ◌+◌, List, [], ◌∷◌, refl, ap, ◌∙◌}
 use Rattle.rule_tokens.specs.declared.lexemes.Lexeme.{Lexeme}
 use Rattle.rule_tokens.specs.declared.lexemes.Lexeme.TheVariants as t
-use Rattle.rule_grammar.specs.Trees.{Literal, Literal.Digits, Literal.Minus, Literal.Least, Literal.Symbol, Literal.Quoted, Term, Term.Leaf, Term.Lone, Term.Compound, Arguments, Arguments.First, Arguments.Next}
-use Rattle.rule_grammar.specs.Trees.{Wanted, Wanted.Variable, Wanted.Anything, HeadTerm, HeadTerm.Leading, HeadTerm.Fixed, HeadTerms, HeadTerms.FirstTerm, HeadTerms.NextTerm, Heading, Heading.Plainly, Heading.Applied}
-use Rattle.rule_grammar.specs.Trees.{Adding, Adding.Added, Adding.Taken, Scaling, Scaling.Times, Scaling.Over, Scaling.Modulo, Joint, Joint.Joined, Joint.Otherwise}
-use Rattle.rule_grammar.specs.Trees.{Condition, Condition.OneAll, Condition.MoreAll, All, All.OneNegation, All.MoreNegation, Negation, Negation.Negated, Negation.Compared, Comparison, Comparison.OneSum, Comparison.TwoSums, Sum, Sum.OneProduct, Sum.MoreProduct, Product, Product.OneUnit, Product.MoreUnit, Unit', Unit'.Value, Unit'.Grouped}
-use Rattle.rule_grammar.specs.Trees.{Tree, Tree.Plain, Tree.Filtered, Chain, Chain.One, Chain.More, Part, Part.Bare, Part.Atom, Part.Without, Part.Rounded, Round, Round.Bracketed, Round.Exactly, Round.AtMost}
-use Rattle.rule_grammar.specs.Trees.{Items, Items.OneItem, Items.MoreItem, Statement, Statement.Clause, Statement.Shown, Statements, Statements.Empty, Statements.Then}
-use Rattle.rule_grammar.specs.Marks.{Role, Marked, Counted}
-use Rattle.rule_grammar.specs.Marks.{Role.Quiet, Role.Starts, Role.Single, Role.Binary, Role.Nests, Role.Deepens, Role.Counts, Role.Lists, Role.Lasts, Role.HasArity}
-use Rattle.rule_grammar.specs.Tokens.{quiet, binary, a_part, literal, count_of, term, arguments, wanted, never, head_term, count_of_terms, head_terms, heading, adding, scaling, joint, condition, all, negation, comparison, sum, product, unit, tree, chain, part, round, items, statement, number_of, statements, text, bare}
-use Rattle.rule_grammar.specs.Lists.{Before, Before.Start, Before.Behind, put_term, Nest, Nest.Outside, Nest.Inside, ListState, ListState.WantTerm, ListState.WantDigits, ListState.HaveName, ListState.HaveTerms, Turn, Turn.Stay, Turn.Leave, Turn.Stuck, level, have, have_leaf, behind_terms, list_step, before, nest, list_so_far}
-use Rattle.rule_grammar.specs.Machine.{ChainHead, ChainHead.FirstPart, ChainHead.NextPart, TermsHead, TermsHead.FirstOfHead, TermsHead.NextOfHead, ItemsHead, ItemsHead.FirstShown, ItemsHead.NextShown, put, put_head, put_item}
+use Rattle.rule_grammar.specs.Trees.{Literal.Digits, Literal.Minus, Literal.Symbol, Term, Term.Lone, Term.Compound, Arguments}
+use Rattle.rule_grammar.specs.Trees.{HeadTerm, HeadTerm.Fixed, HeadTerms, Heading, Heading.Plainly, Heading.Applied}
+use Rattle.rule_grammar.specs.Trees.{Condition, Condition.OneAll, Condition.MoreAll, All, All.OneNegation, All.MoreNegation, Negation, Negation.Negated, Negation.Compared, Comparison.OneSum, Comparison.TwoSums, Sum, Sum.OneProduct, Sum.MoreProduct, Product, Product.OneUnit, Product.MoreUnit, Unit', Unit'.Value, Unit'.Grouped}
+use Rattle.rule_grammar.specs.Trees.{Tree, Tree.Plain, Tree.Filtered, Chain.One, Part, Part.Bare, Part.Atom, Part.Without, Part.Rounded, Round.Bracketed, Round.Exactly, Round.AtMost}
+use Rattle.rule_grammar.specs.Trees.{Items, Statement.Clause, Statement.Shown, Statements, Statements.Then}
+use Rattle.rule_grammar.specs.Marks.{Marked}
+use Rattle.rule_grammar.specs.Marks.{Role.Quiet, Role.Single, Role.Nests, Role.Lasts, Role.HasArity}
+use Rattle.rule_grammar.specs.Tokens.{quiet, a_part, term, arguments, wanted, never, head_term, head_terms, heading, condition, all, negation, sum, product, unit, tree, part, items, number_of, statements, text}
+use Rattle.rule_grammar.specs.Lists.{Before, put_term, Nest, Nest.Outside, Nest.Inside, ListState, ListState.WantTerm, ListState.WantDigits, ListState.HaveName, ListState.HaveTerms, level, before, nest, list_so_far}
+use Rattle.rule_grammar.specs.Machine.{ChainHead, TermsHead, ItemsHead, put, put_head, put_item}
 use Rattle.rule_grammar.specs.Machine.{Stack, Stack.Body, Stack.InRound, Stack.InNot, Stack.InBefore, Stack.InAfter, Where', Where'.InWhere, Where'.InGroup, OrHead, OrHead.FirstAll, OrHead.NextAll, AndHead, AndHead.FirstNegation, AndHead.NextNegation, NotHead, NotHead.NoBang, NotHead.Bang, CompareHead, CompareHead.FirstSum, CompareHead.SecondSum, SumHead, SumHead.FirstProduct, SumHead.NextProduct, ProductHead, ProductHead.FirstUnit, ProductHead.NextUnit}
-use Rattle.rule_grammar.specs.Machine.{AtomPlace, OperandPlace, HeadPlace, State, State.Between, State.HeadName, State.WantHeadTerm, State.HeadMinus, State.HeadWord, State.HaveHeadTerms, State.InHead, State.HaveHead, State.WantItem, State.ItemName, State.ItemSlash, State.HaveItems, State.WantPart, State.AtomName, State.InAtom, State.WantOpen, State.WantLimits, State.HavePart, State.HaveRound, State.WantExact, State.WantMost, State.WantNegation, State.WantUnit, State.UnitMinus, State.UnitName, State.InOperand, State.HaveProduct}
-use Rattle.rule_grammar.specs.Machine.{depth, where_depth, or_depth, and_depth, not_depth, compare_depth, sum_depth, product_depth, have_unit, over_product, over_sum, over_negation, over_all, over_condition, Step, to, first_all, first_unit, behind, behind_chain, behind_condition, behind_all, behind_negation, behind_comparison, behind_sum, behind_all_products, behind_product, behind_unit, want_unit, reads_nothing, reads_wanted, reads_variable, in_head, in_atom, in_operand, have_head_term, behind_head_terms, step, chain_head, terms_head, items_head, begun, stack, where_head, or_head, and_head, not_head, compare_head, sum_head, product_head, atom_place, operand_place, head_place, so_far}
-use Rattle.rule_grammar.proofs.Keeps.{put_reads, put_head_reads, put_item_reads, put_term_reads, have_unit_reads}
+use Rattle.rule_grammar.specs.Machine.{State, State.Between, State.HeadName, State.WantHeadTerm, State.HeadMinus, State.HeadWord, State.HaveHeadTerms, State.InHead, State.HaveHead, State.WantItem, State.ItemName, State.ItemSlash, State.HaveItems, State.WantPart, State.AtomName, State.InAtom, State.WantOpen, State.WantLimits, State.HavePart, State.HaveRound, State.WantExact, State.WantMost, State.WantNegation, State.WantUnit, State.UnitMinus, State.UnitName, State.InOperand, State.HaveProduct}
+use Rattle.rule_grammar.specs.Machine.{depth, where_depth, or_depth, and_depth, not_depth, compare_depth, sum_depth, product_depth, first_unit, chain_head, terms_head, items_head, begun, stack, where_head, or_head, and_head, not_head, compare_head, sum_head, product_head, atom_place, operand_place, head_place, so_far}
+use Rattle.rule_grammar.proofs.Keeps.{put_reads, put_head_reads, put_item_reads, put_term_reads}
 
 -- some tokens make a text of what was read
 pub record Ends (was : List Marked → List Marked) : Type 0 where

@@ -1,5 +1,5 @@
 -- What a run of the machine says of the tokens, in the grammar's words.
-use Rattle.std.proofs.Common.{◌≡◌, ◌≢◌, ℕ, ◌+◌, List, [], ◌∷◌, ◌++◌, length, Option, Some, None, MatchOption, Result, Ok, Err, option_and_then, refl, sym, ap, ◌∙◌, append_assoc, subst}
+use Rattle.std.proofs.Common.{◌≡◌, ◌≢◌, ℕ, List, [], ◌∷◌, ◌++◌, length, Option, Some, None, Result, Ok, Err, refl, sym, ap, ◌∙◌, append_assoc, subst}
 use Rattle.std.proofs.lemmas.List.{append-nil}
 use Rattle.std.proofs.lemmas.Option.{same_Some, MatchOption-at_some}
 use Rattle.rule_tokens.specs.declared.lexemes.Lexeme.{Lexeme}
@@ -9,7 +9,7 @@ use Rattle.rule_grammar.specs.declared.faults.Fault.TheVariants.{Syntax, Limit}
 use Rattle.rule_grammar.specs.Trees.{Statements, Statements.Empty}
 use Rattle.rule_grammar.specs.Marks.{Role, Marked, Counted, nothing_counted, count, count_all, passed}
 use Rattle.rule_grammar.specs.Tokens.{text, bare}
-use Rattle.rule_grammar.specs.Texts.{IsWithin, Reads, Viable, NoneGoesOn, SyntaxAt, LimitAt, Means}
+use Rattle.rule_grammar.specs.Texts.{IsWithin, Reads, Viable, NoneGoesOn, Means}
 use Rattle.rule_grammar.specs.Machine.{State, State.Between, Step, step, so_far, run, onward, unless_passed, ended}
 use Rattle.rule_grammar.proofs.Keeps.{step_keeps}
 use Rattle.rule_grammar.proofs.Ends.{ends}

@@ -1,6 +1,5 @@
 -- The tokens of each tree, with their roles, and then rest.
 use Rattle.std.specs.Prelude.{ℕ, ◌+◌, List, [], ◌∷◌}
-use Rattle.rule_ast.specs.declared.conditions.Cmp.{Cmp}
 use Rattle.rule_tokens.specs.declared.lexemes.Lexeme.{Lexeme}
 use Rattle.rule_tokens.specs.declared.lexemes.Lexeme.TheVariants as t
 use Rattle.rule_grammar.specs.Trees.{Literal, Literal.Digits, Literal.Minus, Literal.Least, Literal.Symbol, Literal.Quoted, Term, Term.Leaf, Term.Lone, Term.Compound, Arguments, Arguments.First, Arguments.Next}

@@ -1,5 +1,5 @@
 -- Trees of the grammar's rules. Redundant brackets stand in them, and what groups to the left stands so.
-use Rattle.std.specs.Prelude.{ℕ, List, Option}
+use Rattle.std.specs.Prelude.{ℕ, List}
 use Rattle.ev_term.specs.declared.operators.Op.{Op}
 use Rattle.rule_ast.specs.declared.conditions.Cmp.{Cmp}
 

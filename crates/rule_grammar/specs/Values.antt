@@ -1,5 +1,5 @@
 -- What a text says: brackets are gone, and variables have their numbers in the order of first occurrence.
-use Rattle.std.specs.Prelude.{ℕ, pos, ◌-ℤ◌, ◌+◌, ◌^◌, Bool, cond, List, [], ◌∷◌, ◌++◌, Option, Some, None}
+use Rattle.std.specs.Prelude.{ℕ, pos, ◌-ℤ◌, ◌+◌, ◌^◌, cond, List, [], ◌∷◌, ◌++◌}
 use Rattle.std.specs.Str.{bytes_eq}
 use Rattle.ev_term.specs.declared.terms.Pat.{Pat}
 use Rattle.ev_term.specs.declared.terms.Pat.TheVariants as pat

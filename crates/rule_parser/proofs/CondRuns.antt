@@ -110,11 +110,16 @@ unit_variable {ts} {rest} {d} {g} {g1} {g'} {name} {slot} e p q f s =
     let same : g' ≡ with_variable (with_part g) name = q ∙ ap (λ y. with_variable y name) p in
     let fine : Fine (with_variable (with_part g) name) = subst Fine (ap (λ y. with_variable y name) p) f in
     record {
-      tree = Value (Leaf name); says = λ names h. ap (λ z. plain.Value (pat.Var z)) (s names h); grows = subst (λ y. Extends g.names y.names) (sym same) (extends_name g.names name);
-      fine = subst Fine (sym same) fine; shorter = omega (arith, ap length e); counts = λ more. ap (λ y. count_all y more) (sym same);
+      tree = Value (Leaf name);
+      says = λ names h. ap (λ z. plain.Value (pat.Var z)) (s names h);
+      grows = subst (λ y. Extends g.names y.names) (sym same) (extends_name g.names name);
+      fine = subst Fine (sym same) fine;
+      shorter = omega (arith, ap length e);
+      counts = λ more. ap (λ y. count_all y more) (sym same);
       runs = λ h r.
-        run_on g (WantUnit h) Single (have_unit h (Value (Leaf name))) e refl (single (with_variable (with_part g) name) fine)
-        ∙ ap (λ y. run rest y (have_unit h (Value (Leaf name)))) (sym same) ∙ unit_resumes h (Value (Leaf name)) rest g' }
+          run_on g (WantUnit h) Single (have_unit h (Value (Leaf name))) e refl (single (with_variable (with_part g) name) fine)
+          ∙ ap (λ y. run rest y (have_unit h (Value (Leaf name)))) (sym same) ∙ unit_resumes h (Value (Leaf name)) rest g';
+    }
 
 word_unit_runs : (l : Literal) (ts rest : List Lexeme) (g : Counted) → Fine (with_part g) → IsNoSymbol l → ts ≡ word_tokens l rest → (h : ProductHead)
     → run ts g (WantUnit h) ≡ resume (λ x. behind_unit (have_unit h (Value (Lone l))) x) rest (with_part g)
@@ -137,9 +142,14 @@ word_unit_counts (Quoted text) n g more = refl
 
 pub unit_word : {ts rest : List Lexeme} {d : ℕ} {g g' : Counted} {v : Pat} → g' ≡ with_part g → Fine (with_part g) → WordRead ts v rest → Read unit_level unit_value ts d g g' (plain.Value v) rest
 unit_word {ts} {rest} {d} {g} {g'} {v} p f w = record {
-  tree = Value (Lone w.literal); says = λ names q. ap plain.Value w.says; grows = subst (λ y. Extends g.names y.names) (sym p) (extends_refl g.names); fine = subst Fine (sym p) f;
-  shorter = word_shorter w.literal ts rest w.tokens; counts = λ more. word_unit_counts w.literal w.no_symbol g more ∙ ap (λ y. count_all y more) (sym p);
-  runs = λ h q. word_unit_runs w.literal ts rest g f w.no_symbol w.tokens h ∙ ap (λ y. resume (λ x. behind_unit (have_unit h (Value (Lone w.literal))) x) rest y) (sym p) }
+  tree = Value (Lone w.literal);
+  says = λ names q. ap plain.Value w.says;
+  grows = subst (λ y. Extends g.names y.names) (sym p) (extends_refl g.names);
+  fine = subst Fine (sym p) f;
+  shorter = word_shorter w.literal ts rest w.tokens;
+  counts = λ more. word_unit_counts w.literal w.no_symbol g more ∙ ap (λ y. count_all y more) (sym p);
+  runs = λ h q. word_unit_runs w.literal ts rest g f w.no_symbol w.tokens h ∙ ap (λ y. resume (λ x. behind_unit (have_unit h (Value (Lone w.literal))) x) rest y) (sym p);
+}
 
 pub no_word : {A : Type 0} {ts rest : List Lexeme} {x : Lexeme} → ts ≡ x ∷ rest → begins_word x ≡ true → LacksWord ts → A
 no_word {A} {ts} {rest} {x} e b l = at x b (subst LacksWord e l)
@@ -153,11 +163,16 @@ no_word {A} {ts} {rest} {x} e b l = at x b (subst LacksWord e l)
 pub unit_symbol : {ts rest : List Lexeme} {d : ℕ} {g g' : Counted} {name v : List ℕ} → g' ≡ with_part g → Fine (with_part g) → ts ≡ t.Name name ∷ rest → Lacks sign.Open rest → v ≡ name
     → Read unit_level unit_value ts d g g' (plain.Value (pat.Sym v)) rest
 unit_symbol {ts} {rest} {d} {g} {g'} {name} {v} p f e l s = record {
-  tree = Value (Lone (Symbol name)); says = λ names q. ap (λ z. plain.Value (pat.Sym z)) (sym s); grows = subst (λ y. Extends g.names y.names) (sym p) (extends_refl g.names); fine = subst Fine (sym p) f;
-  shorter = omega (arith, ap length e); counts = λ more. ap (λ y. count_all y more) (sym p);
+  tree = Value (Lone (Symbol name));
+  says = λ names q. ap (λ z. plain.Value (pat.Sym z)) (sym s);
+  grows = subst (λ y. Extends g.names y.names) (sym p) (extends_refl g.names);
+  fine = subst Fine (sym p) f;
+  shorter = omega (arith, ap length e);
+  counts = λ more. ap (λ y. count_all y more) (sym p);
   runs = λ h q.
-    run_on g (WantUnit h) Single (UnitName h name) e refl (single (with_part g) f)
-    ∙ ap (λ y. run rest y (UnitName h name)) (sym p) ∙ name_unit_resumes h name rest g' l }
+      run_on g (WantUnit h) Single (UnitName h name) e refl (single (with_part g) f)
+      ∙ ap (λ y. run rest y (UnitName h name)) (sym p) ∙ name_unit_resumes h name rest g' l;
+}
 
 compound_begins : {ts r1 r2 : List Lexeme} (g : Counted) {g1 : Counted} {name : List ℕ} → g1 ≡ with_part g → Fine (with_part g) → ts ≡ t.Name name ∷ r1 → r1 ≡ t.Open ∷ r2 → (h : ProductHead)
     → run ts g (WantUnit h) ≡ run r2 g1 (InOperand (WantTerm (Outside (h, name)) Start))
@@ -171,13 +186,16 @@ pub unit_compound : {ts r1 r2 rest : List Lexeme} {d : ℕ} {g g1 g' : Counted} 
 unit_compound {ts} {r1} {r2} {rest} {d} {g} {g1} {g'} {name} {v} {vs} p f e1 e2 l s = record {
   tree = Value (Compound name l.read.tree);
   says = λ names q. ap (λ n. plain.Value (pat.Comp n (terms_of Operand names l.read.tree))) (sym s) ∙ ap (λ z. plain.Value (pat.Comp v z)) (l.read.says names q);
-  grows = subst (λ y. Extends y.names g'.names) p l.read.grows; fine = l.read.fine; shorter = omega (arith, ap length e1, ap length e2, l.read.shorter, ap length l.close);
+  grows = subst (λ y. Extends y.names g'.names) p l.read.grows;
+  fine = l.read.fine;
+  shorter = omega (arith, ap length e1, ap length e2, l.read.shorter, ap length l.close);
   counts = λ more. ap (λ y. count_all y (arguments t.Var 2 l.read.tree ((Quiet, t.Close) ∷ more))) (sym p) ∙ l.read.counts ((Quiet, t.Close) ∷ more);
   runs = λ h q.
-    compound_begins g p f e1 e2 h
-    ∙ l.read.runs (Outside (h, name)) refl
-    ∙ resume_on g' (λ x. in_operand (behind_terms (Outside (h, name)) l.read.tree x)) Quiet (have_unit h (Value (Compound name l.read.tree))) l.close refl (quiet g' l.read.fine)
-    ∙ unit_resumes h (Value (Compound name l.read.tree)) rest g' }
+      compound_begins g p f e1 e2 h
+      ∙ l.read.runs (Outside (h, name)) refl
+      ∙ resume_on g' (λ x. in_operand (behind_terms (Outside (h, name)) l.read.tree x)) Quiet (have_unit h (Value (Compound name l.read.tree))) l.close refl (quiet g' l.read.fine)
+      ∙ unit_resumes h (Value (Compound name l.read.tree)) rest g';
+}
 
 -- Conditions in brackets.
 
@@ -185,18 +203,23 @@ pub group_begins : {ts r1 : List Lexeme} {d : ℕ} {g : Counted} → Fine g → 
     → run ts g (WantUnit h) ≡ run r1 g (WantNegation (first_all (InGroup h)))
 group_begins {ts} {r1} {d} {g} f n e h q =
     run_on g (WantUnit h) (Nests (product_depth h + 1)) (WantNegation (first_all (InGroup h))) e refl
-      (fits g (Nests (product_depth h + 1)) which.Depth 32 (product_depth h + 1) f refl (omega arith))
+    (fits g (Nests (product_depth h + 1)) which.Depth 32 (product_depth h + 1) f refl (omega arith))
 
 pub unit_grouped : {ts r1 r2 rest : List Lexeme} {d : ℕ} {g g' : Counted} {v : PlainCond} → Fine g → d + 1 ≤ 32 → ts ≡ t.Open ∷ r1 → Read condition_level condition_value r1 (d + 1) g g' v r2 → r2 ≡ t.Close ∷ rest
     → Read unit_level unit_value ts d g g' v rest
 unit_grouped {ts} {r1} {r2} {rest} {d} {g} {g'} {v} f n e c l = record {
-  tree = Grouped c.tree; says = c.says; grows = c.grows; fine = c.fine; shorter = omega (arith, ap length e, c.shorter, ap length l);
+  tree = Grouped c.tree;
+  says = c.says;
+  grows = c.grows;
+  fine = c.fine;
+  shorter = omega (arith, ap length e, c.shorter, ap length l);
   counts = λ more. c.counts ((Quiet, t.Close) ∷ more);
   runs = λ h q.
-    group_begins f n e h q
-    ∙ c.runs (InGroup h) (ap (λ m. m + 1) q)
-    ∙ resume_on g' (behind_condition (InGroup h) c.tree) Quiet (have_unit h (Grouped c.tree)) l refl (quiet g' c.fine)
-    ∙ unit_resumes h (Grouped c.tree) rest g' }
+      group_begins f n e h q
+      ∙ c.runs (InGroup h) (ap (λ m. m + 1) q)
+      ∙ resume_on g' (behind_condition (InGroup h) c.tree) Quiet (have_unit h (Grouped c.tree)) l refl (quiet g' c.fine)
+      ∙ unit_resumes h (Grouped c.tree) rest g';
+}
 
 -- Products.
 
@@ -208,10 +231,14 @@ pub product_more : {ts r1 r2 rest : List Lexeme} {d : ℕ} {g g1 g2 g' : Counted
 product_more {ts} {r1} {r2} {rest} {d} {g} {g1} {g2} {g'} {u} {v} op a e p f b0 s =
     let b : Read unit_level unit_value r2 d (with_part g1) g' v rest = subst (λ y. Read unit_level unit_value r2 d y g' v rest) p b0 in
     record {
-      tree = MoreUnit a.tree op b.tree; says = λ names q. cc (earlier a b names q, b.says names q, s);
-      grows = extends_trans a.grows b.grows; fine = b.fine; shorter = omega (arith, a.shorter, ap length e, b.shorter);
+      tree = MoreUnit a.tree op b.tree;
+      says = λ names q. cc (earlier a b names q, b.says names q, s);
+      grows = extends_trans a.grows b.grows;
+      fine = b.fine;
+      shorter = omega (arith, a.shorter, ap length e, b.shorter);
       counts = λ more. a.counts ((Binary, scaling op) ∷ unit d b.tree more) ∙ ap (λ y. count_all y (unit d b.tree more)) (scaling_counts g1 op) ∙ b.counts more;
-      runs = λ h q. link_on (scaling_link op) a e (scaling_counts g1 op) f h q ∙ b.runs (NextUnit h a.tree op) q }
+      runs = λ h q. link_on (scaling_link op) a e (scaling_counts g1 op) f h q ∙ b.runs (NextUnit h a.tree op) q;
+    }
 
 -- Sums.
 
@@ -224,18 +251,28 @@ product_over h p (x ∷ xs) g l = refl
 
 pub sum_one : {ts rest : List Lexeme} {d : ℕ} {g g' : Counted} {v : PlainCond} → Read product_level product_value ts d g g' v rest → LacksScaling rest → Read sum_level sum_value ts d g g' v rest
 sum_one {rest = rest} {g' = g'} p l = record {
-  tree = OneProduct p.tree; says = p.says; grows = p.grows; fine = p.fine; shorter = p.shorter; counts = p.counts;
-  runs = λ c q. p.runs (FirstProduct c) q ∙ product_over (FirstProduct c) p.tree rest g' l }
+  tree = OneProduct p.tree;
+  says = p.says;
+  grows = p.grows;
+  fine = p.fine;
+  shorter = p.shorter;
+  counts = p.counts;
+  runs = λ c q. p.runs (FirstProduct c) q ∙ product_over (FirstProduct c) p.tree rest g' l;
+}
 
 pub sum_more : {ts r1 r2 rest : List Lexeme} {d : ℕ} {g g1 g2 g' : Counted} {u v w : PlainCond} (op : Adding) → Read sum_level sum_value ts d g g1 u r1 → r1 ≡ adding op ∷ r2 → g2 ≡ with_part g1 → Fine (with_part g1)
     → Read product_level product_value r2 d g2 g' v rest → LacksScaling rest → w ≡ plain.Calculate (adding_value op) u v → Read sum_level sum_value ts d g g' w rest
 sum_more {ts} {r1} {r2} {rest} {d} {g} {g1} {g2} {g'} {u} {v} op a e p f b0 l s =
     let b : Read product_level product_value r2 d (with_part g1) g' v rest = subst (λ y. Read product_level product_value r2 d y g' v rest) p b0 in
     record {
-      tree = MoreProduct a.tree op b.tree; says = λ names q. cc (earlier a b names q, b.says names q, s);
-      grows = extends_trans a.grows b.grows; fine = b.fine; shorter = omega (arith, a.shorter, ap length e, b.shorter);
+      tree = MoreProduct a.tree op b.tree;
+      says = λ names q. cc (earlier a b names q, b.says names q, s);
+      grows = extends_trans a.grows b.grows;
+      fine = b.fine;
+      shorter = omega (arith, a.shorter, ap length e, b.shorter);
       counts = λ more. a.counts ((Binary, adding op) ∷ product d b.tree more) ∙ ap (λ y. count_all y (product d b.tree more)) (adding_counts g1 op) ∙ b.counts more;
-      runs = λ c q. link_on (adding_link op) a e (adding_counts g1 op) f c q ∙ b.runs (NextProduct c a.tree op) q ∙ product_over (NextProduct c a.tree op) b.tree rest g' l }
+      runs = λ c q. link_on (adding_link op) a e (adding_counts g1 op) f c q ∙ b.runs (NextProduct c a.tree op) q ∙ product_over (NextProduct c a.tree op) b.tree rest g' l;
+    }
 
 -- Comparisons.
 
@@ -254,8 +291,14 @@ second_over n l cmp s (x ∷ xs) g a = refl
 
 pub comparison_one : {ts rest : List Lexeme} {d : ℕ} {g g' : Counted} {v : PlainCond} → Read sum_level sum_value ts d g g' v rest → LacksAdding rest → LacksCompare rest → Read comparison_level comparison_value ts d g g' v rest
 comparison_one {rest = rest} {g' = g'} s a b = record {
-  tree = OneSum s.tree; says = s.says; grows = s.grows; fine = s.fine; shorter = s.shorter; counts = s.counts;
-  runs = λ n q. s.runs (FirstSum n) q ∙ sum_over n s.tree rest g' a b }
+  tree = OneSum s.tree;
+  says = s.says;
+  grows = s.grows;
+  fine = s.fine;
+  shorter = s.shorter;
+  counts = s.counts;
+  runs = λ n q. s.runs (FirstSum n) q ∙ sum_over n s.tree rest g' a b;
+}
 
 compare_begins : {ts r1 r2 : List Lexeme} {d : ℕ} {g g1 : Counted} {u : PlainCond} (cmp : Cmp) → (a : Read sum_level sum_value ts d g g1 u r1) → r1 ≡ t.Compare cmp ∷ r2 → Fine (with_part g1)
     → (n : NotHead) → not_depth n ≡ d → run ts g (WantUnit (first_unit (FirstSum n))) ≡ run r2 (with_part g1) (WantUnit (first_unit (SecondSum n a.tree cmp)))
@@ -268,10 +311,14 @@ pub comparison_two : {ts r1 r2 rest : List Lexeme} {d : ℕ} {g g1 g2 g' : Count
 comparison_two {ts} {r1} {r2} {rest} {d} {g} {g1} {g2} {g'} {u} {v} {w} {cmp} a e p f b0 l s =
     let b : Read sum_level sum_value r2 d (with_part g1) g' v rest = subst (λ y. Read sum_level sum_value r2 d y g' v rest) p b0 in
     record {
-      tree = TwoSums a.tree cmp b.tree; says = λ names q. cc (earlier a b names q, b.says names q, s);
-      grows = extends_trans a.grows b.grows; fine = b.fine; shorter = omega (arith, a.shorter, ap length e, b.shorter);
+      tree = TwoSums a.tree cmp b.tree;
+      says = λ names q. cc (earlier a b names q, b.says names q, s);
+      grows = extends_trans a.grows b.grows;
+      fine = b.fine;
+      shorter = omega (arith, a.shorter, ap length e, b.shorter);
       counts = λ more. a.counts ((Binary, t.Compare cmp) ∷ sum d b.tree more) ∙ b.counts more;
-      runs = λ n q. compare_begins cmp a e f n q ∙ b.runs (SecondSum n a.tree cmp) q ∙ second_over n a.tree cmp b.tree rest g' l }
+      runs = λ n q. compare_begins cmp a e f n q ∙ b.runs (SecondSum n a.tree cmp) q ∙ second_over n a.tree cmp b.tree rest g' l;
+    }
 
 -- Negations.
 
@@ -282,7 +329,14 @@ negation_enters n (x ∷ xs) g l = refl
 
 pub negation_compared : {ts rest : List Lexeme} {d : ℕ} {g g' : Counted} {v : PlainCond} → Lacks sign.Bang ts → Read comparison_level comparison_value ts d g g' v rest → Read negation_level negation_value ts d g g' v rest
 negation_compared {ts} {rest} {d} {g} l c = record {
-  tree = Compared c.tree; says = c.says; grows = c.grows; fine = c.fine; shorter = c.shorter; counts = c.counts; runs = λ n q. negation_enters n ts g l ∙ c.runs n q }
+  tree = Compared c.tree;
+  says = c.says;
+  grows = c.grows;
+  fine = c.fine;
+  shorter = c.shorter;
+  counts = c.counts;
+  runs = λ n q. negation_enters n ts g l ∙ c.runs n q;
+}
 
 pub negation_compared_answer : {R : Type 0} (plain' : R → PlainCond) (ts : List Lexeme) (d : ℕ) (g g' : Counted) (r : Result (R × Bor (List Lexeme)) Stop) → Lacks sign.Bang ts → Answer comparison_level comparison_value plain' ts d g g' r → Answer negation_level negation_value plain' ts d g g' r
 negation_compared_answer plain' ts d g g' (Ok x) l a = negation_compared l a
@@ -294,9 +348,14 @@ bang_begins g e f n = run_on g (WantNegation n) Single (WantNegation (Bang n)) e
 pub negation_more : {ts r1 rest : List Lexeme} {d : ℕ} {g g1 g' : Counted} {v w : PlainCond} → ts ≡ t.Bang ∷ r1 → g1 ≡ with_part g → Fine (with_part g) → Read negation_level negation_value r1 d g1 g' v rest → w ≡ plain.Negate v
     → Read negation_level negation_value ts d g g' w rest
 negation_more {ts} {r1} {rest} {d} {g} {g1} {g'} e p f n s = record {
-  tree = Negated n.tree; says = λ names q. ap plain.Negate (n.says names q) ∙ sym s; grows = subst (λ y. Extends y.names g'.names) p n.grows; fine = n.fine; shorter = omega (arith, ap length e, n.shorter);
+  tree = Negated n.tree;
+  says = λ names q. ap plain.Negate (n.says names q) ∙ sym s;
+  grows = subst (λ y. Extends y.names g'.names) p n.grows;
+  fine = n.fine;
+  shorter = omega (arith, ap length e, n.shorter);
   counts = λ more. ap (λ y. count_all y (negation d n.tree more)) (sym p) ∙ n.counts more;
-  runs = λ h q. bang_begins g e f h ∙ ap (λ y. run r1 y (WantNegation (Bang h))) (sym p) ∙ n.runs (Bang h) q }
+  runs = λ h q. bang_begins g e f h ∙ ap (λ y. run r1 y (WantNegation (Bang h))) (sym p) ∙ n.runs (Bang h) q;
+}
 
 -- Conjunctions and conditions.
 
@@ -308,10 +367,14 @@ pub all_more : {ts r1 r2 rest : List Lexeme} {d : ℕ} {g g1 g2 g' : Counted} {u
 all_more {ts} {r1} {r2} {rest} {d} {g} {g1} {g2} {g'} {u} {v} a e p f b0 s =
     let b : Read negation_level negation_value r2 d (with_part g1) g' v rest = subst (λ y. Read negation_level negation_value r2 d y g' v rest) p b0 in
     record {
-      tree = MoreNegation a.tree b.tree; says = λ names q. cc (earlier a b names q, b.says names q, s);
-      grows = extends_trans a.grows b.grows; fine = b.fine; shorter = omega (arith, a.shorter, ap length e, b.shorter);
+      tree = MoreNegation a.tree b.tree;
+      says = λ names q. cc (earlier a b names q, b.says names q, s);
+      grows = extends_trans a.grows b.grows;
+      fine = b.fine;
+      shorter = omega (arith, a.shorter, ap length e, b.shorter);
       counts = λ more. a.counts ((Binary, t.Both) ∷ negation d b.tree more) ∙ b.counts more;
-      runs = λ o q. link_on both_link a e refl f o q ∙ b.runs (NoBang (NextNegation o a.tree)) q }
+      runs = λ o q. link_on both_link a e refl f o q ∙ b.runs (NoBang (NextNegation o a.tree)) q;
+    }
 
 all_over : (o : OrHead) (a : All) (rest : List Lexeme) (g : Counted) → Lacks sign.Both rest → resume (behind_all o a) rest g ≡ resume (behind_condition (over_condition o a).0 (over_condition o a).1) rest g
 all_over o a [] g l = refl
@@ -320,14 +383,25 @@ all_over o a (x ∷ xs) g l = refl
 
 pub condition_one : {ts rest : List Lexeme} {d : ℕ} {g g' : Counted} {v : PlainCond} → Read all_level all_value ts d g g' v rest → Lacks sign.Both rest → Read condition_level condition_value ts d g g' v rest
 condition_one {rest = rest} {g' = g'} a l = record {
-  tree = OneAll a.tree; says = a.says; grows = a.grows; fine = a.fine; shorter = a.shorter; counts = a.counts; runs = λ w q. a.runs (FirstAll w) q ∙ all_over (FirstAll w) a.tree rest g' l }
+  tree = OneAll a.tree;
+  says = a.says;
+  grows = a.grows;
+  fine = a.fine;
+  shorter = a.shorter;
+  counts = a.counts;
+  runs = λ w q. a.runs (FirstAll w) q ∙ all_over (FirstAll w) a.tree rest g' l;
+}
 
 pub condition_more : {ts r1 r2 rest : List Lexeme} {d : ℕ} {g g1 g2 g' : Counted} {u v w : PlainCond} → Read condition_level condition_value ts d g g1 u r1 → r1 ≡ t.Either ∷ r2 → g2 ≡ with_part g1 → Fine (with_part g1)
     → Read all_level all_value r2 d g2 g' v rest → Lacks sign.Both rest → w ≡ plain.OrElse u v → Read condition_level condition_value ts d g g' w rest
 condition_more {ts} {r1} {r2} {rest} {d} {g} {g1} {g2} {g'} {u} {v} a e p f b0 l s =
     let b : Read all_level all_value r2 d (with_part g1) g' v rest = subst (λ y. Read all_level all_value r2 d y g' v rest) p b0 in
     record {
-      tree = MoreAll a.tree b.tree; says = λ names q. cc (earlier a b names q, b.says names q, s);
-      grows = extends_trans a.grows b.grows; fine = b.fine; shorter = omega (arith, a.shorter, ap length e, b.shorter);
+      tree = MoreAll a.tree b.tree;
+      says = λ names q. cc (earlier a b names q, b.says names q, s);
+      grows = extends_trans a.grows b.grows;
+      fine = b.fine;
+      shorter = omega (arith, a.shorter, ap length e, b.shorter);
       counts = λ more. a.counts ((Binary, t.Either) ∷ all d b.tree more) ∙ b.counts more;
-      runs = λ w q. link_on either_link a e refl f w q ∙ b.runs (NextAll w a.tree) q ∙ all_over (NextAll w a.tree) b.tree rest g' l }
+      runs = λ w q. link_on either_link a e refl f w q ∙ b.runs (NextAll w a.tree) q ∙ all_over (NextAll w a.tree) b.tree rest g' l;
+    }

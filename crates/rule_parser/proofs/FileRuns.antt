@@ -1,5 +1,6 @@
 -- How runs go on over the tokens of heads and statements.
-use Rattle.std.proofs.Common.{◌≡◌, ℕ, ◌+◌, ◌<◌, ◌≤◌, List, [], ◌∷◌, ◌++◌, length, map, Option, Some, None, Result, Ok, Err, refl, sym, ap, ◌∙◌, arith, subst, length-append, map-append}
+use Rattle.std.proofs.Common.{◌≡◌, ℕ, ◌+◌, ◌<◌, ◌≤◌, List, [], ◌∷◌, ◌++◌, length, map, Option, Some, None, Result, Ok, Err, refl, sym, ap, ◌∙◌, arith, subst, length-append}
+use Rattle.std.proofs.lemmas.List.{map-append}
 use Rattle.ev_term.specs.declared.atoms.PatAtom.{PatAtom}
 use Rattle.ev_term.specs.declared.atoms.NameArity.{NameArity}
 use Rattle.rule_ast.specs.Trees as plain
@@ -70,42 +71,69 @@ word_counts (Quoted text) g more = refl
 
 pub head_word : {ts rest : List Lexeme} {g : Counted} {v : Pat} → Fine g → WordRead ts v rest → Read head_term_level head_term_value ts 0 g g v rest
 head_word {ts} {rest} {g} f w = record {
-  tree = Fixed (Lone w.literal); says = λ names q. w.says; grows = extends_refl g.names; fine = f; shorter = word_shorter w.literal ts rest w.tokens; counts = word_counts w.literal g;
-  runs = λ c q. word_head_runs w.literal ts rest g f w.no_symbol w.tokens c.0 c.1 c.2 }
+  tree = Fixed (Lone w.literal);
+  says = λ names q. w.says;
+  grows = extends_refl g.names;
+  fine = f;
+  shorter = word_shorter w.literal ts rest w.tokens;
+  counts = word_counts w.literal g;
+  runs = λ c q. word_head_runs w.literal ts rest g f w.no_symbol w.tokens c.0 c.1 c.2;
+}
 
 pub head_variable : {ts rest : List Lexeme} {x : Lexeme} {g g' : Counted} {name : List ℕ} {slot : ℕ} → ts ≡ x ∷ rest → x ≡ t.Var name → g' ≡ with_variable g name → Fine (with_variable g name)
     → ((names : List (List ℕ)) → Extends g'.names names → slot_of names name ≡ slot) → Read head_term_level head_term_value ts 0 g g' (pat.Var slot) rest
 head_variable {ts} {rest} {x} {g} {g'} {name} {slot} e0 v q f s =
     let e : ts ≡ t.Var name ∷ rest = e0 ∙ ap (λ y. y ∷ rest) v in
     record {
-      tree = Leading name; says = λ names h. ap pat.Var (s names h); grows = subst (λ y. Extends g.names y.names) (sym q) (extends_name g.names name); fine = subst Fine (sym q) f; shorter = omega (arith, ap length e);
+      tree = Leading name;
+      says = λ names h. ap pat.Var (s names h);
+      grows = subst (λ y. Extends g.names y.names) (sym q) (extends_name g.names name);
+      fine = subst Fine (sym q) f;
+      shorter = omega (arith, ap length e);
       counts = λ more. ap (λ y. count_all y more) (sym q);
       runs = λ c r.
-        run_on g (WantHeadTerm c.0 c.1 c.2) Quiet (HaveHeadTerms c.0 c.1 (put_head c.2 (Leading name))) e refl (quiet (with_variable g name) f)
-        ∙ ap (λ y. run rest y (HaveHeadTerms c.0 c.1 (put_head c.2 (Leading name)))) (sym q) ∙ head_resumes c.0 c.1 _ rest g' }
+          run_on g (WantHeadTerm c.0 c.1 c.2) Quiet (HaveHeadTerms c.0 c.1 (put_head c.2 (Leading name))) e refl (quiet (with_variable g name) f)
+          ∙ ap (λ y. run rest y (HaveHeadTerms c.0 c.1 (put_head c.2 (Leading name)))) (sym q) ∙ head_resumes c.0 c.1 _ rest g';
+    }
 
 pub head_symbol : {ts rest : List Lexeme} {g : Counted} {w v : List ℕ} → Fine g → ts ≡ t.Name w ∷ rest → Lacks sign.Open rest → v ≡ w → Read head_term_level head_term_value ts 0 g g (pat.Sym v) rest
 head_symbol {ts} {rest} {g} {w} {v} f e l s = record {
-  tree = Fixed (Lone (Symbol w)); says = λ names q. ap pat.Sym (sym s); grows = extends_refl g.names; fine = f; shorter = omega (arith, ap length e); counts = λ more. refl;
-  runs = λ c q. run_on g (WantHeadTerm c.0 c.1 c.2) Quiet (HeadWord c.0 c.1 c.2 w) e refl (quiet g f) ∙ word_head_resumes c.0 c.1 c.2 w rest g l }
+  tree = Fixed (Lone (Symbol w));
+  says = λ names q. ap pat.Sym (sym s);
+  grows = extends_refl g.names;
+  fine = f;
+  shorter = omega (arith, ap length e);
+  counts = λ more. refl;
+  runs = λ c q. run_on g (WantHeadTerm c.0 c.1 c.2) Quiet (HeadWord c.0 c.1 c.2 w) e refl (quiet g f) ∙ word_head_resumes c.0 c.1 c.2 w rest g l;
+}
 
 pub head_compound : {ts r1 r2 rest : List Lexeme} {g g' : Counted} {w v : List ℕ} {vs : List Pat} → Fine g → ts ≡ t.Name w ∷ r1 → r1 ≡ t.Open ∷ r2 → ListRead Ground r2 2 g g' vs rest → v ≡ w
     → Read head_term_level head_term_value ts 0 g g' (pat.Comp v vs) rest
 head_compound {ts} {r1} {r2} {rest} {g} {g'} {w} {v} {vs} f e1 e2 l s = record {
   tree = Fixed (Compound w l.read.tree);
   says = λ names q. ap (λ n. pat.Comp n (terms_of Ground names l.read.tree)) (sym s) ∙ ap (pat.Comp v) (l.read.says names q);
-  grows = l.read.grows; fine = l.read.fine; shorter = omega (arith, ap length e1, ap length e2, l.read.shorter, ap length l.close);
+  grows = l.read.grows;
+  fine = l.read.fine;
+  shorter = omega (arith, ap length e1, ap length e2, l.read.shorter, ap length l.close);
   counts = λ more. l.read.counts ((Quiet, t.Close) ∷ more);
   runs = λ c q.
-    run_on g (WantHeadTerm c.0 c.1 c.2) Quiet (HeadWord c.0 c.1 c.2 w) e1 refl (quiet g f)
-    ∙ run_on g (HeadWord c.0 c.1 c.2 w) (Deepens 2) (InHead (WantTerm (Outside (c.0, c.1, c.2, w)) Start)) e2 refl (by_role_alone g (Deepens 2) f)
-    ∙ l.read.runs (Outside (c.0, c.1, c.2, w)) refl
-    ∙ resume_on g' (λ x. in_head (behind_terms (Outside (c.0, c.1, c.2, w)) l.read.tree x)) Quiet (HaveHeadTerms c.0 c.1 (put_head c.2 (Fixed (Compound w l.read.tree)))) l.close refl (quiet g' l.read.fine)
-    ∙ head_resumes c.0 c.1 _ rest g' }
+      run_on g (WantHeadTerm c.0 c.1 c.2) Quiet (HeadWord c.0 c.1 c.2 w) e1 refl (quiet g f)
+      ∙ run_on g (HeadWord c.0 c.1 c.2 w) (Deepens 2) (InHead (WantTerm (Outside (c.0, c.1, c.2, w)) Start)) e2 refl (by_role_alone g (Deepens 2) f)
+      ∙ l.read.runs (Outside (c.0, c.1, c.2, w)) refl
+      ∙ resume_on g' (λ x. in_head (behind_terms (Outside (c.0, c.1, c.2, w)) l.read.tree x)) Quiet (HaveHeadTerms c.0 c.1 (put_head c.2 (Fixed (Compound w l.read.tree)))) l.close refl (quiet g' l.read.fine)
+      ∙ head_resumes c.0 c.1 _ rest g';
+}
 
 pub heads_one : {ts rest : List Lexeme} {g g' : Counted} {v : Pat} {vs : List Pat} → Read head_term_level head_term_value ts 0 g g' v rest → vs ≡ v ∷ [] → Read head_terms_level head_terms_value ts 0 g g' vs rest
 heads_one a e = record {
-  tree = FirstTerm a.tree; says = λ names q. ap (λ x. x ∷ []) (a.says names q) ∙ sym e; grows = a.grows; fine = a.fine; shorter = a.shorter; counts = a.counts; runs = λ c q. a.runs (c.0, c.1, FirstOfHead) q }
+  tree = FirstTerm a.tree;
+  says = λ names q. ap (λ x. x ∷ []) (a.says names q) ∙ sym e;
+  grows = a.grows;
+  fine = a.fine;
+  shorter = a.shorter;
+  counts = a.counts;
+  runs = λ c q. a.runs (c.0, c.1, FirstOfHead) q;
+}
 
 length_heads : (names : List (List ℕ)) (as' : HeadTerms) → length (head_terms_value names as') ≡ count_of_terms as'
 length_heads names (FirstTerm a) = refl
@@ -119,28 +147,31 @@ heads_comma : {ts r1 r2 : List Lexeme} {g g1 : Counted} {vs : List Pat} (a : Rea
 heads_comma {g1 = g1} a h e c =
     a.runs c refl
     ∙ resume_on g1 (behind_head_terms c.0 c.1 a.tree) (Counts (count_of_terms a.tree + 1)) (WantHeadTerm c.0 c.1 (NextOfHead a.tree)) e refl
-        (fits g1 (Counts (count_of_terms a.tree + 1)) which.TermWidth 16 (count_of_terms a.tree + 1) a.fine refl (let n = counted_heads a in omega arith))
+    (fits g1 (Counts (count_of_terms a.tree + 1)) which.TermWidth 16 (count_of_terms a.tree + 1) a.fine refl (let n = counted_heads a in omega arith))
 
 pub heads_more : {ts r1 r2 rest : List Lexeme} {g g1 g' : Counted} {vs ws : List Pat} {v : Pat} → (a : Read head_terms_level head_terms_value ts 0 g g1 vs r1) → length vs < 16 → r1 ≡ t.Comma ∷ r2
     → Read head_term_level head_term_value r2 0 g1 g' v rest → ws ≡ vs ++ v ∷ [] → Read head_terms_level head_terms_value ts 0 g g' ws rest
 heads_more {ts} {r1} {r2} {rest} {g} {g1} {g'} {vs} {ws} {v} a h e b s = record {
   tree = NextTerm a.tree b.tree;
   says = λ names q. ap (λ l. l ++ head_term_value names b.tree ∷ []) (a.says names (extends_trans b.grows q)) ∙ ap (λ x. vs ++ x ∷ []) (b.says names q) ∙ sym s;
-  grows = extends_trans a.grows b.grows; fine = b.fine; shorter = omega (arith, a.shorter, ap length e, b.shorter);
+  grows = extends_trans a.grows b.grows;
+  fine = b.fine;
+  shorter = omega (arith, a.shorter, ap length e, b.shorter);
   counts = λ more. a.counts ((Counts (count_of_terms a.tree + 1), t.Comma) ∷ head_term b.tree more) ∙ b.counts more;
-  runs = λ c q. heads_comma a h e c ∙ b.runs (c.0, c.1, NextOfHead a.tree) refl }
+  runs = λ c q. heads_comma a h e c ∙ b.runs (c.0, c.1, NextOfHead a.tree) refl;
+}
 
 pub heads_fail : {ts r1 r2 : List Lexeme} {g g1 : Counted} {vs : List Pat} (err : Stop) → (a : Read head_terms_level head_terms_value ts 0 g g1 vs r1) → length vs < 16 → r1 ≡ t.Comma ∷ r2
-    → ((c : Statements × List ℕ × TermsHead) → 0 ≡ 0 → Fails err (run r2 g1 (WantHeadTerm c.0 c.1 c.2)))
+    → ((c : Statements × List ℕ × TermsHead) → Fails err (run r2 g1 (WantHeadTerm c.0 c.1 c.2)))
     → (c : Statements × List ℕ) → Fails err (run ts g (WantHeadTerm c.0 c.1 FirstOfHead))
-heads_fail err a h e fails c = fails_along err (heads_comma a h e c) (fails (c.0, c.1, NextOfHead a.tree) refl)
+heads_fail err a h e fails c = fails_along err (heads_comma a h e c) (fails (c.0, c.1, NextOfHead a.tree))
 
 pub heads_wide : {ts r1 r2 : List Lexeme} {g g1 : Counted} {vs : List Pat} → (a : Read head_terms_level head_terms_value ts 0 g g1 vs r1) → 16 ≤ length vs → r1 ≡ t.Comma ∷ r2
     → (c : Statements × List ℕ) → run ts g (WantHeadTerm c.0 c.1 FirstOfHead) ≡ Err (fault.Limit which.TermWidth (length r1))
 heads_wide {g1 = g1} a h e c =
     a.runs c refl
     ∙ resume_off g1 (behind_head_terms c.0 c.1 a.tree) (Counts (count_of_terms a.tree + 1)) (WantHeadTerm c.0 c.1 (NextOfHead a.tree)) which.TermWidth e refl
-        (exceeds g1 (Counts (count_of_terms a.tree + 1)) which.TermWidth 16 (count_of_terms a.tree + 1) a.fine refl (let n = counted_heads a in omega arith))
+    (exceeds g1 (Counts (count_of_terms a.tree + 1)) which.TermWidth 16 (count_of_terms a.tree + 1) a.fine refl (let n = counted_heads a in omega arith))
 
 -- Heads, from behind their name to behind their arrow.
 
@@ -149,26 +180,35 @@ nothing_fine = record { parts = omega arith; names = omega arith }
 
 pub head_plain : {ts rest : List Lexeme} {g : Counted} {name v : List ℕ} {vs : List Pat} → g ≡ nothing_counted → ts ≡ t.Arrow ∷ rest → v ≡ name → vs ≡ [] → HeadRead name ts g (record { name = v; args = vs }) rest
 head_plain {ts} {rest} {g} {name} {v} {vs} z e s n = record {
-  head = Plainly name; says = λ names q. cc (s, n); fine = subst Fine (sym z) nothing_fine; shorter = omega (arith, ap length e); counts = λ g0 k more. ap (λ y. count_all y more) (sym z);
-  runs = λ ss. run_on nothing_counted (HeadName ss name) Quiet (WantPart FirstPart (Body ss (Plainly name))) e refl (quiet nothing_counted nothing_fine) ∙ ap (λ y. run rest y (WantPart FirstPart (Body ss (Plainly name)))) (sym z) }
+  head = Plainly name;
+  says = λ names q. cc (s, n);
+  fine = subst Fine (sym z) nothing_fine;
+  shorter = omega (arith, ap length e);
+  counts = λ g0 k more. ap (λ y. count_all y more) (sym z);
+  runs = λ ss. run_on nothing_counted (HeadName ss name) Quiet (WantPart FirstPart (Body ss (Plainly name))) e refl (quiet nothing_counted nothing_fine) ∙ ap (λ y. run rest y (WantPart FirstPart (Body ss (Plainly name)))) (sym z);
+}
 
-head_opens : {ts r1 : List Lexeme} {name : List ℕ} → ts ≡ t.Open ∷ r1 → (ss : Statements) → run ts nothing_counted (HeadName ss name) ≡ run r1 nothing_counted (WantHeadTerm ss name FirstOfHead)
-head_opens {ts} {r1} {name} e ss = run_on nothing_counted (HeadName ss name) Quiet (WantHeadTerm ss name FirstOfHead) e refl (quiet nothing_counted nothing_fine)
+head_opens : {ts r1 : List Lexeme} (name : List ℕ) → ts ≡ t.Open ∷ r1 → (ss : Statements) → run ts nothing_counted (HeadName ss name) ≡ run r1 nothing_counted (WantHeadTerm ss name FirstOfHead)
+head_opens {ts} {r1} name e ss = run_on nothing_counted (HeadName ss name) Quiet (WantHeadTerm ss name FirstOfHead) e refl (quiet nothing_counted nothing_fine)
 
 pub head_applied : {ts r1 r2 rest : List Lexeme} {g0 g : Counted} {name v : List ℕ} {vs ws : List Pat} → g0 ≡ nothing_counted → ts ≡ t.Open ∷ r1 → HeadListRead r1 g0 g vs r2 → r2 ≡ t.Arrow ∷ rest → v ≡ name → ws ≡ vs
     → HeadRead name ts g (record { name = v; args = ws }) rest
 head_applied {ts} {r1} {r2} {rest} {g0} {g} {name} {v} {vs} {ws} z e l a s n = record {
-  head = Applied name l.read.tree; says = λ names q. cc (l.read.says names q, s, n); fine = l.read.fine; shorter = omega (arith, ap length e, l.read.shorter, ap length l.close, ap length a);
+  head = Applied name l.read.tree;
+  says = λ names q. cc (l.read.says names q, s, n);
+  fine = l.read.fine;
+  shorter = omega (arith, ap length e, l.read.shorter, ap length l.close, ap length a);
   counts = λ g1 k more. ap (λ y. count_all y (head_terms l.read.tree ((Quiet, t.Close) ∷ (Quiet, t.Arrow) ∷ more))) (sym z) ∙ l.read.counts ((Quiet, t.Close) ∷ (Quiet, t.Arrow) ∷ more);
   runs = λ ss.
-    head_opens e ss ∙ ap (λ y. run r1 y (WantHeadTerm ss name FirstOfHead)) (sym z)
-    ∙ l.read.runs (ss, name) refl
-    ∙ resume_on g (behind_head_terms ss name l.read.tree) Quiet (HaveHead ss (Applied name l.read.tree)) l.close refl (quiet g l.read.fine)
-    ∙ run_on g (HaveHead ss (Applied name l.read.tree)) Quiet (WantPart FirstPart (Body ss (Applied name l.read.tree))) a refl (quiet g l.read.fine) }
+      head_opens name e ss ∙ ap (λ y. run r1 y (WantHeadTerm ss name FirstOfHead)) (sym z)
+      ∙ l.read.runs (ss, name) refl
+      ∙ resume_on g (behind_head_terms ss name l.read.tree) Quiet (HaveHead ss (Applied name l.read.tree)) l.close refl (quiet g l.read.fine)
+      ∙ run_on g (HaveHead ss (Applied name l.read.tree)) Quiet (WantPart FirstPart (Body ss (Applied name l.read.tree))) a refl (quiet g l.read.fine);
+}
 
 pub head_fails : {ts r1 : List Lexeme} {g0 : Counted} (name : List ℕ) (err : Stop) → g0 ≡ nothing_counted → ts ≡ t.Open ∷ r1 → ((c : Statements × List ℕ) → Fails err (run r1 g0 (WantHeadTerm c.0 c.1 FirstOfHead)))
     → (ss : Statements) → Fails err (run ts nothing_counted (HeadName ss name))
-head_fails {r1 = r1} name err z e fails ss = fails_along err (head_opens e ss ∙ ap (λ y. run r1 y (WantHeadTerm ss name FirstOfHead)) (sym z)) (fails (ss, name))
+head_fails {r1 = r1} name err z e fails ss = fails_along err (head_opens name e ss ∙ ap (λ y. run r1 y (WantHeadTerm ss name FirstOfHead)) (sym z)) (fails (ss, name))
 
 have_stuck : (ss : Statements) (h : Heading) (rest : List Lexeme) (g : Counted) → Lacks sign.Arrow rest → run rest g (HaveHead ss h) ≡ Err (fault.Syntax (length rest))
 have_stuck ss h [] g l = refl
@@ -178,7 +218,7 @@ have_stuck ss h (x ∷ xs) g l = refl
 pub head_no_arrow : {ts r1 r2 : List Lexeme} {g0 g : Counted} (name : List ℕ) {vs : List Pat} → g0 ≡ nothing_counted → ts ≡ t.Open ∷ r1 → HeadListRead r1 g0 g vs r2 → Lacks sign.Arrow r2
     → (ss : Statements) → run ts nothing_counted (HeadName ss name) ≡ Err (fault.Syntax (length r2))
 head_no_arrow {r1 = r1} {r2 = r2} {g = g} name z e l a ss =
-    head_opens e ss ∙ ap (λ y. run r1 y (WantHeadTerm ss name FirstOfHead)) (sym z)
+    head_opens name e ss ∙ ap (λ y. run r1 y (WantHeadTerm ss name FirstOfHead)) (sym z)
     ∙ l.read.runs (ss, name) refl
     ∙ resume_on g (behind_head_terms ss name l.read.tree) Quiet (HaveHead ss (Applied name l.read.tree)) l.close refl (quiet g l.read.fine)
     ∙ have_stuck ss (Applied name l.read.tree) r2 g a
@@ -193,30 +233,39 @@ rule_read {name} {ts} {r1} {r2} {rest} {g1} {g2} {h} {b} {vars} a p e s =
     let head : heading_value (names_of (Clause a.head p.tree)) a.head ≡ h = ap (λ y. heading_value y a.head) names ∙ a.says g2.names p.grows in
     let body : tree_value (names_of (Clause a.head p.tree)) p.tree ≡ b = ap (λ y. tree_value y p.tree) names ∙ p.says g2.names (extends_refl g2.names) in
     record {
-      statement = Clause a.head p.tree; after = g2; says = cc (head, body, names ∙ sym s);
+      statement = Clause a.head p.tree;
+      after = g2;
+      says = cc (head, body, names ∙ sym s);
       shorter = omega (arith, a.shorter, p.shorter, ap length e);
       runs = λ ss.
-        a.runs ss ∙ p.runs (Body ss a.head) refl
-        ∙ resume_on g2 (behind (Body ss a.head) p.tree) Quiet (Between (Then ss (Clause a.head p.tree))) e refl (quiet g2 p.fine) }
+          a.runs ss ∙ p.runs (Body ss a.head) refl
+          ∙ resume_on g2 (behind (Body ss a.head) p.tree) Quiet (Between (Then ss (Clause a.head p.tree))) e refl (quiet g2 p.fine);
+    }
 
 item_runs : {ts rest : List Lexeme} {v : NameArity} → ItemRead ts v rest → (ss : Statements) (h : ItemsHead) → run ts nothing_counted (WantItem ss h) ≡ run rest nothing_counted (HaveItems ss (put_item h v.name v.arity))
 item_runs {ts} {rest} {v} i ss h =
     run_on nothing_counted (WantItem ss h) Quiet (ItemName ss h v.name) i.tokens refl (quiet nothing_counted nothing_fine)
     ∙ run_on {xs = t.Number v.arity ∷ rest} {x = t.Slash} nothing_counted (ItemName ss h v.name) Quiet (ItemSlash ss h v.name) refl refl (quiet nothing_counted nothing_fine)
     ∙ run_on {xs = rest} {x = t.Number v.arity} nothing_counted (ItemSlash ss h v.name) (HasArity v.arity) (HaveItems ss (put_item h v.name v.arity)) refl refl
-        (fits nothing_counted (HasArity v.arity) which.TermWidth 16 v.arity nothing_fine refl i.few)
+    (fits nothing_counted (HasArity v.arity) which.TermWidth 16 v.arity nothing_fine refl i.few)
 
 pub items_one : {ts rest : List Lexeme} {v : NameArity} {vs : List NameArity} → ItemRead ts v rest → vs ≡ v ∷ [] → ItemsRead ts vs rest
 items_one {ts} {rest} {v} i s = record {
-  items = OneItem v.name v.arity; says = sym s; shorter = omega (arith, ap length i.tokens);
-  runs = λ ss. item_runs i ss FirstShown }
+  items = OneItem v.name v.arity;
+  says = sym s;
+  shorter = omega (arith, ap length i.tokens);
+  runs = λ ss. item_runs i ss FirstShown;
+}
 
 pub items_more : {ts r1 r2 rest : List Lexeme} {vs ws : List NameArity} {v : NameArity} → ItemsRead ts vs r1 → r1 ≡ t.Comma ∷ r2 → ItemRead r2 v rest → ws ≡ vs ++ v ∷ [] → ItemsRead ts ws rest
 items_more {ts} {r1} {r2} {rest} {vs} {ws} {v} a e i s = record {
-  items = MoreItem a.items v.name v.arity; says = ap (λ l. l ++ v ∷ []) a.says ∙ sym s; shorter = omega (arith, a.shorter, ap length e, ap length i.tokens);
+  items = MoreItem a.items v.name v.arity;
+  says = ap (λ l. l ++ v ∷ []) a.says ∙ sym s;
+  shorter = omega (arith, a.shorter, ap length e, ap length i.tokens);
   runs = λ ss.
-    a.runs ss ∙ run_on nothing_counted (HaveItems ss a.items) Lists (WantItem ss (NextShown a.items)) e refl (by_role_alone nothing_counted Lists nothing_fine)
-    ∙ item_runs i ss (NextShown a.items) }
+      a.runs ss ∙ run_on nothing_counted (HaveItems ss a.items) Lists (WantItem ss (NextShown a.items)) e refl (by_role_alone nothing_counted Lists nothing_fine)
+      ∙ item_runs i ss (NextShown a.items);
+}
 
 pub items_fail : {ts r1 r2 : List Lexeme} {vs : List NameArity} (err : Stop) → ItemsRead ts vs r1 → r1 ≡ t.Comma ∷ r2 → ((ss : Statements) (h : ItemsHead) → Fails err (run r2 nothing_counted (WantItem ss h)))
     → (ss : Statements) → Fails err (run ts nothing_counted (WantItem ss FirstShown))
@@ -225,8 +274,12 @@ items_fail err a e fails ss =
 
 pub show_read : {ts r1 rest : List Lexeme} {vs : List NameArity} → ItemsRead ts vs r1 → r1 ≡ t.End ∷ rest → StatementRead shown_state ts (plain.Show vs) rest
 show_read {ts} {r1} {rest} a e = record {
-  statement = Shown a.items; after = nothing_counted; says = ap plain.Show a.says; shorter = omega (arith, a.shorter, ap length e);
-  runs = λ ss. a.runs ss ∙ run_on nothing_counted (HaveItems ss a.items) Quiet (Between (Then ss (Shown a.items))) e refl (quiet nothing_counted nothing_fine) }
+  statement = Shown a.items;
+  after = nothing_counted;
+  says = ap plain.Show a.says;
+  shorter = omega (arith, a.shorter, ap length e);
+  runs = λ ss. a.runs ss ∙ run_on nothing_counted (HaveItems ss a.items) Quiet (Between (Then ss (Shown a.items))) e refl (quiet nothing_counted nothing_fine);
+}
 
 -- a statement may begin
 begins : (ss : Statements) (n : ℕ) → number_of ss ≡ n → n < 1024 → passed nothing_counted (Starts (number_of ss + 1)) ≡ None
@@ -234,13 +287,21 @@ begins ss n e h = fits nothing_counted (Starts (number_of ss + 1)) which.Stateme
 
 pub next_rule : {ts r1 rest : List Lexeme} {name : List ℕ} {n : ℕ} {v : PlainStatement} → n < 1024 → ts ≡ t.Name name ∷ r1 → StatementRead (named_state name) r1 v rest → NextRead ts n v rest
 next_rule {ts} {r1} {rest} {name} {n} h e s = record {
-  statement = s.statement; after = s.after; says = s.says; shorter = omega (arith, ap length e, s.shorter);
-  runs = λ ss g q. run_on g (Between ss) (Starts (number_of ss + 1)) (HeadName ss name) e refl (begins ss n q h) ∙ s.runs ss }
+  statement = s.statement;
+  after = s.after;
+  says = s.says;
+  shorter = omega (arith, ap length e, s.shorter);
+  runs = λ ss g q. run_on g (Between ss) (Starts (number_of ss + 1)) (HeadName ss name) e refl (begins ss n q h) ∙ s.runs ss;
+}
 
 pub next_show : {ts r1 rest : List Lexeme} {n : ℕ} {v : PlainStatement} → n < 1024 → ts ≡ t.Show ∷ r1 → StatementRead shown_state r1 v rest → NextRead ts n v rest
 next_show {ts} {r1} {rest} {n} h e s = record {
-  statement = s.statement; after = s.after; says = s.says; shorter = omega (arith, ap length e, s.shorter);
-  runs = λ ss g q. run_on g (Between ss) (Starts (number_of ss + 1)) (WantItem ss FirstShown) e refl (begins ss n q h) ∙ s.runs ss }
+  statement = s.statement;
+  after = s.after;
+  says = s.says;
+  shorter = omega (arith, ap length e, s.shorter);
+  runs = λ ss g q. run_on g (Between ss) (Starts (number_of ss + 1)) (WantItem ss FirstShown) e refl (begins ss n q h) ∙ s.runs ss;
+}
 
 pub next_rule_fails : {ts r1 : List Lexeme} {name : List ℕ} {n : ℕ} (err : Stop) → n < 1024 → ts ≡ t.Name name ∷ r1 → ((ss : Statements) → Fails err (run r1 nothing_counted (HeadName ss name)))
     → (ss : Statements) (g : Counted) → number_of ss ≡ n → Fails err (run ts g (Between ss))
@@ -273,12 +334,14 @@ next_stuck {ts} {r1} {x} e a b ss g q = ap (λ y. run y g (Between ss)) e ∙ at
 pub file_begins : (ts : List Lexeme) {vs : List declared.Statement} → vs ≡ [] → FileRead ts vs ts
 file_begins ts e = record { tree = Empty; after = nothing_counted; says = ap (map plain_statement) (sym e); many = ap length (sym e); runs = refl }
 
-pub file_more : {ts r1 rest : List Lexeme} {vs ws : List declared.Statement} {v : declared.Statement} {n : ℕ} → FileRead ts vs r1 → n ≡ length vs → NextRead r1 n (plain_statement v) rest → ws ≡ vs ++ v ∷ [] → FileRead ts ws rest
-file_more {ts} {r1} {rest} {vs} {ws} {v} {n} a m s e = record {
-  tree = Then a.tree s.statement; after = s.after;
+pub file_more : {ts r1 rest : List Lexeme} {vs ws : List declared.Statement} (v : declared.Statement) {n : ℕ} → FileRead ts vs r1 → n ≡ length vs → NextRead r1 n (plain_statement v) rest → ws ≡ vs ++ v ∷ [] → FileRead ts ws rest
+file_more {ts} {r1} {rest} {vs} {ws} v {n} a m s e = record {
+  tree = Then a.tree s.statement;
+  after = s.after;
   says = ap (λ l. l ++ statement_value s.statement ∷ []) a.says ∙ ap (λ x. map plain_statement vs ++ x ∷ []) s.says ∙ sym (map-append plain_statement vs (v ∷ [])) ∙ ap (map plain_statement) (sym e);
   many = ap (λ k. k + 1) a.many ∙ sym (length-append vs (v ∷ [])) ∙ ap length (sym e);
-  runs = a.runs ∙ s.runs a.tree a.after (a.many ∙ sym m) }
+  runs = a.runs ∙ s.runs a.tree a.after (a.many ∙ sym m);
+}
 
 pub file_fails : {ts r1 : List Lexeme} {vs : List declared.Statement} {n : ℕ} (err : Stop) → FileRead ts vs r1 → n ≡ length vs → ((ss : Statements) (g : Counted) → number_of ss ≡ n → Fails err (run r1 g (Between ss)))
     → Fails err (run ts nothing_counted (Between Empty))

@@ -54,7 +54,7 @@ bytes_eq_refl name = (bytes_eq-Decides name name).1 refl
 pub new_slot : (xs : List (List ℕ)) (name : List ℕ) → list_any (bytes_eq name) xs ≡ false → (names : List (List ℕ)) → Extends (xs ++ name ∷ []) names → slot_of names name ≡ length xs
 new_slot xs name h names e =
     let has : list_any (bytes_eq name) (xs ++ name ∷ []) ≡ true =
-      list_any-append (bytes_eq name) xs (name ∷ []) ∙ ap (λ b. b || (bytes_eq name name || false)) h ∙ ap (λ b. b || false) (bytes_eq_refl name) in
+    list_any-append (bytes_eq name) xs (name ∷ []) ∙ ap (λ b. b || (bytes_eq name name || false)) h ∙ ap (λ b. b || false) (bytes_eq_refl name) in
     slot_of-extends name has e ∙ slot_of-push xs name (bytes_eq_refl name) h
 
 pub old_slot : {xs ys : List (List ℕ)} (name : List ℕ) {i r m : ℕ} → ys ≡ xs → (i ≡ slot_of ys name) × ((list_any (bytes_eq name) ys ≡ true) × (i < m)) → r ≡ i

@@ -62,37 +62,52 @@ round_over h r k (x ∷ xs) g l = refl
 pub part_bare : {ts rest : List Lexeme} {d : ℕ} {g g' : Counted} {name v : List ℕ} {vs : List Pat} → g' ≡ with_part g → Fine (with_part g) → ts ≡ t.Name name ∷ rest → Lacks sign.Open rest → v ≡ name → vs ≡ []
     → Read part_level part_value ts d g g' (plain.Atom (record { name = v; args = vs })) rest
 part_bare {ts} {rest} {d} {g} {g'} {name} {v} {vs} p f e l s n = record {
-  tree = Bare name; says = λ names q. cc (s, n); grows = subst (λ y. Extends g.names y.names) (sym p) (extends_refl g.names); fine = subst Fine (sym p) f; shorter = omega (arith, ap length e); counts = λ more. ap (λ y. count_all y more) (sym p);
+  tree = Bare name;
+  says = λ names q. cc (s, n);
+  grows = subst (λ y. Extends g.names y.names) (sym p) (extends_refl g.names);
+  fine = subst Fine (sym p) f;
+  shorter = omega (arith, ap length e);
+  counts = λ more. ap (λ y. count_all y more) (sym p);
   runs = λ c q.
-    run_on g (WantPart c.0 c.1) Single (AtomName c.0 c.1 name) e refl (by_role_alone (with_part g) Single f)
-    ∙ ap (λ y. run rest y (AtomName c.0 c.1 name)) (sym p) ∙ bare_resumes c.0 c.1 name rest g' l }
+      run_on g (WantPart c.0 c.1) Single (AtomName c.0 c.1 name) e refl (by_role_alone (with_part g) Single f)
+      ∙ ap (λ y. run rest y (AtomName c.0 c.1 name)) (sym p) ∙ bare_resumes c.0 c.1 name rest g' l;
+}
 
 pub part_atom : {ts r1 r2 rest : List Lexeme} {d : ℕ} {g g1 g' : Counted} {name v : List ℕ} {vs ws : List Pat} → g1 ≡ with_part g → Fine (with_part g) → ts ≡ t.Name name ∷ r1 → r1 ≡ t.Open ∷ r2
     → ListRead Argument r2 1 g1 g' vs rest → v ≡ name → ws ≡ vs → Read part_level part_value ts d g g' (plain.Atom (record { name = v; args = ws })) rest
 part_atom {ts} {r1} {r2} {rest} {d} {g} {g1} {g'} {name} {v} {vs} {ws} p f e1 e2 l s n = record {
-  tree = Atom name l.read.tree; says = λ names q. cc (l.read.says names q, s, n);
-  grows = subst (λ y. Extends y.names g'.names) p l.read.grows; fine = l.read.fine; shorter = omega (arith, ap length e1, ap length e2, l.read.shorter, ap length l.close);
+  tree = Atom name l.read.tree;
+  says = λ names q. cc (l.read.says names q, s, n);
+  grows = subst (λ y. Extends y.names g'.names) p l.read.grows;
+  fine = l.read.fine;
+  shorter = omega (arith, ap length e1, ap length e2, l.read.shorter, ap length l.close);
   counts = λ more. ap (λ y. count_all y (arguments wanted 1 l.read.tree ((Quiet, t.Close) ∷ more))) (sym p) ∙ l.read.counts ((Quiet, t.Close) ∷ more);
   runs = λ c q.
-    run_on g (WantPart c.0 c.1) Single (AtomName c.0 c.1 name) e1 refl (by_role_alone (with_part g) Single f)
-    ∙ run_on (with_part g) (AtomName c.0 c.1 name) Quiet (InAtom (WantTerm (Outside (c.0, c.1, name)) Start)) e2 refl (quiet (with_part g) f)
-    ∙ ap (λ y. run r2 y (InAtom (WantTerm (Outside (c.0, c.1, name)) Start))) (sym p)
-    ∙ l.read.runs (Outside (c.0, c.1, name)) refl
-    ∙ resume_on g' (λ x. in_atom (behind_terms (Outside (c.0, c.1, name)) l.read.tree x)) Quiet (HavePart (put c.0 (Atom name l.read.tree)) c.1) l.close refl (quiet g' l.read.fine)
-    ∙ part_resumes (put c.0 (Atom name l.read.tree)) c.1 rest g' }
+      run_on g (WantPart c.0 c.1) Single (AtomName c.0 c.1 name) e1 refl (by_role_alone (with_part g) Single f)
+      ∙ run_on (with_part g) (AtomName c.0 c.1 name) Quiet (InAtom (WantTerm (Outside (c.0, c.1, name)) Start)) e2 refl (quiet (with_part g) f)
+      ∙ ap (λ y. run r2 y (InAtom (WantTerm (Outside (c.0, c.1, name)) Start))) (sym p)
+      ∙ l.read.runs (Outside (c.0, c.1, name)) refl
+      ∙ resume_on g' (λ x. in_atom (behind_terms (Outside (c.0, c.1, name)) l.read.tree x)) Quiet (HavePart (put c.0 (Atom name l.read.tree)) c.1) l.close refl (quiet g' l.read.fine)
+      ∙ part_resumes (put c.0 (Atom name l.read.tree)) c.1 rest g';
+}
 
 -- Brackets and bounds.
 
 pub round_bracketed : {ts r1 r2 rest : List Lexeme} {d : ℕ} {g g' : Counted} {v : PlainPattern} → Fine g → d + 1 ≤ 32 → ts ≡ t.Open ∷ r1 → Read tree_level tree_value r1 (d + 1) g g' v r2 → r2 ≡ t.Close ∷ rest
     → Read round_level round_value ts d g g' v rest
 round_bracketed {ts} {r1} {r2} {rest} {d} {g} {g'} f n e p l = record {
-  tree = Bracketed p.tree; says = p.says; grows = p.grows; fine = p.fine; shorter = omega (arith, ap length e, p.shorter, ap length l);
+  tree = Bracketed p.tree;
+  says = p.says;
+  grows = p.grows;
+  fine = p.fine;
+  shorter = omega (arith, ap length e, p.shorter, ap length l);
   counts = λ more. p.counts ((Quiet, t.Close) ∷ more);
   runs = λ c q.
-    run_on g (WantPart c.0 c.1) (Nests (depth c.1 + 1)) (WantPart FirstPart (InRound c.0 c.1)) e refl (fits g (Nests (depth c.1 + 1)) which.Depth 32 (depth c.1 + 1) f refl (omega arith))
-    ∙ p.runs (InRound c.0 c.1) (ap (λ m. m + 1) q)
-    ∙ resume_on g' (behind (InRound c.0 c.1) p.tree) Quiet (HaveRound c.0 (Bracketed p.tree) c.1) l refl (quiet g' p.fine)
-    ∙ round_resumes c.0 (Bracketed p.tree) c.1 rest g' }
+      run_on g (WantPart c.0 c.1) (Nests (depth c.1 + 1)) (WantPart FirstPart (InRound c.0 c.1)) e refl (fits g (Nests (depth c.1 + 1)) which.Depth 32 (depth c.1 + 1) f refl (omega arith))
+      ∙ p.runs (InRound c.0 c.1) (ap (λ m. m + 1) q)
+      ∙ resume_on g' (behind (InRound c.0 c.1) p.tree) Quiet (HaveRound c.0 (Bracketed p.tree) c.1) l refl (quiet g' p.fine)
+      ∙ round_resumes c.0 (Bracketed p.tree) c.1 rest g';
+}
 
 bounded : Bound → Round → ℕ → Round
 bounded bounds.Exact r q = Exactly r q
@@ -101,27 +116,42 @@ bounded bounds.Most r q = AtMost r q
 pub round_more : (b : Bound) {ts r1 r2 rest : List Lexeme} {d q : ℕ} {g g1 g2 : Counted} {u w : PlainPattern} → Read round_level round_value ts d g g1 u r1 → r1 ≡ bound_lexeme b ∷ r2 → g2 ≡ with_part g1 → Fine (with_part g1)
     → LengthRead r2 q rest → w ≡ bounded_value b u q → Read round_level round_value ts d g g2 w rest
 round_more bounds.Exact {ts} {r1} {r2} {rest} {d} {q} {g} {g1} {g2} a e p f l s = record {
-  tree = Exactly a.tree q; says = λ names h. ap (λ x. plain.Exact x q) (a.says names (subst (λ y. Extends y.names names) p h)) ∙ sym s;
-  grows = subst (λ y. Extends g.names y.names) (sym p) a.grows; fine = subst Fine (sym p) f; shorter = omega (arith, a.shorter, ap length e, ap length l.tokens);
+  tree = Exactly a.tree q;
+  says = λ names h. ap (λ x. plain.Exact x q) (a.says names (subst (λ y. Extends y.names names) p h)) ∙ sym s;
+  grows = subst (λ y. Extends g.names y.names) (sym p) a.grows;
+  fine = subst Fine (sym p) f;
+  shorter = omega (arith, a.shorter, ap length e, ap length l.tokens);
   counts = λ more. a.counts ((Single, t.Length) ∷ (Lasts q, t.Number q) ∷ more) ∙ ap (λ y. count_all y more) (sym p);
   runs = λ c h.
-    a.runs c h
-    ∙ resume_on g1 (step (HaveRound c.0 a.tree c.1)) Single (WantExact c.0 a.tree c.1) e refl (by_role_alone (with_part g1) Single f)
-    ∙ run_on (with_part g1) (WantExact c.0 a.tree c.1) (Lasts q) (HaveRound c.0 (Exactly a.tree q) c.1) l.tokens refl (fits (with_part g1) (Lasts q) which.Length (2 ^ 62) q f refl l.within)
-    ∙ ap (λ y. run rest y (HaveRound c.0 (Exactly a.tree q) c.1)) (sym p) ∙ round_resumes c.0 (Exactly a.tree q) c.1 rest g2 }
+      a.runs c h
+      ∙ resume_on g1 (step (HaveRound c.0 a.tree c.1)) Single (WantExact c.0 a.tree c.1) e refl (by_role_alone (with_part g1) Single f)
+      ∙ run_on (with_part g1) (WantExact c.0 a.tree c.1) (Lasts q) (HaveRound c.0 (Exactly a.tree q) c.1) l.tokens refl (fits (with_part g1) (Lasts q) which.Length (2 ^ 62) q f refl l.within)
+      ∙ ap (λ y. run rest y (HaveRound c.0 (Exactly a.tree q) c.1)) (sym p) ∙ round_resumes c.0 (Exactly a.tree q) c.1 rest g2;
+}
 round_more bounds.Most {ts} {r1} {r2} {rest} {d} {q} {g} {g1} {g2} a e p f l s = record {
-  tree = AtMost a.tree q; says = λ names h. ap (λ x. plain.Within x q) (a.says names (subst (λ y. Extends y.names names) p h)) ∙ sym s;
-  grows = subst (λ y. Extends g.names y.names) (sym p) a.grows; fine = subst Fine (sym p) f; shorter = omega (arith, a.shorter, ap length e, ap length l.tokens);
+  tree = AtMost a.tree q;
+  says = λ names h. ap (λ x. plain.Within x q) (a.says names (subst (λ y. Extends y.names names) p h)) ∙ sym s;
+  grows = subst (λ y. Extends g.names y.names) (sym p) a.grows;
+  fine = subst Fine (sym p) f;
+  shorter = omega (arith, a.shorter, ap length e, ap length l.tokens);
   counts = λ more. a.counts ((Binary, t.Within) ∷ (Lasts q, t.Number q) ∷ more) ∙ ap (λ y. count_all y more) (sym p);
   runs = λ c h.
-    a.runs c h
-    ∙ resume_on g1 (step (HaveRound c.0 a.tree c.1)) Binary (WantMost c.0 a.tree c.1) e refl (by_role_alone (with_part g1) Binary f)
-    ∙ run_on (with_part g1) (WantMost c.0 a.tree c.1) (Lasts q) (HaveRound c.0 (AtMost a.tree q) c.1) l.tokens refl (fits (with_part g1) (Lasts q) which.Length (2 ^ 62) q f refl l.within)
-    ∙ ap (λ y. run rest y (HaveRound c.0 (AtMost a.tree q) c.1)) (sym p) ∙ round_resumes c.0 (AtMost a.tree q) c.1 rest g2 }
+      a.runs c h
+      ∙ resume_on g1 (step (HaveRound c.0 a.tree c.1)) Binary (WantMost c.0 a.tree c.1) e refl (by_role_alone (with_part g1) Binary f)
+      ∙ run_on (with_part g1) (WantMost c.0 a.tree c.1) (Lasts q) (HaveRound c.0 (AtMost a.tree q) c.1) l.tokens refl (fits (with_part g1) (Lasts q) which.Length (2 ^ 62) q f refl l.within)
+      ∙ ap (λ y. run rest y (HaveRound c.0 (AtMost a.tree q) c.1)) (sym p) ∙ round_resumes c.0 (AtMost a.tree q) c.1 rest g2;
+}
 
 pub part_round : {ts rest : List Lexeme} {d : ℕ} {g g' : Counted} {v : PlainPattern} → Read round_level round_value ts d g g' v rest → LacksBound rest → Read part_level part_value ts d g g' v rest
 part_round {rest = rest} {g' = g'} r l = record {
-  tree = Rounded r.tree; says = r.says; grows = r.grows; fine = r.fine; shorter = r.shorter; counts = r.counts; runs = λ c q. r.runs c q ∙ round_over c.0 r.tree c.1 rest g' l }
+  tree = Rounded r.tree;
+  says = r.says;
+  grows = r.grows;
+  fine = r.fine;
+  shorter = r.shorter;
+  counts = r.counts;
+  runs = λ c q. r.runs c q ∙ round_over c.0 r.tree c.1 rest g' l;
+}
 
 -- NOT: up to its first limit, up to its second, and whole.
 
@@ -142,20 +172,22 @@ pub part_without : {ts r0 r1 r2 r3 r4 r5 r6 r7 rest : List Lexeme} {d : ℕ} {g 
 part_without {ts} {r0} {r1} {r2} {r3} {r4} {r5} {r6} {r7} {rest} {d} {g} {g1} {g2} {g3} {g'} e0 w f n e1 p e2 e3 q e4 r e5 = record {
   tree = Without p.tree q.tree r.tree;
   says = λ names h. cc (p.says names (extends_trans q.grows (extends_trans r.grows h)), q.says names (extends_trans r.grows h), r.says names h);
-  grows = subst (λ y. Extends y.names g'.names) w (extends_trans p.grows (extends_trans q.grows r.grows)); fine = r.fine;
+  grows = subst (λ y. Extends y.names g'.names) w (extends_trans p.grows (extends_trans q.grows r.grows));
+  fine = r.fine;
   shorter = omega (arith, ap length e0, ap length e1, p.shorter, ap length e2, ap length e3, q.shorter, ap length e4, r.shorter, ap length e5);
   counts = λ more.
-    let third : List Marked = tree (d + 1) r.tree ((Quiet, t.Square) ∷ more) in
-    let second : List Marked = tree (d + 1) q.tree ((Quiet, t.Comma) ∷ third) in
-    ap (λ y. count_all y (tree (d + 1) p.tree ((Quiet, t.Close) ∷ (Nests (d + 1), t.Limits) ∷ second))) (sym w)
-    ∙ p.counts ((Quiet, t.Close) ∷ (Nests (d + 1), t.Limits) ∷ second) ∙ q.counts ((Quiet, t.Comma) ∷ third) ∙ r.counts ((Quiet, t.Square) ∷ more);
+      let third : List Marked = tree (d + 1) r.tree ((Quiet, t.Square) ∷ more) in
+      let second : List Marked = tree (d + 1) q.tree ((Quiet, t.Comma) ∷ third) in
+      ap (λ y. count_all y (tree (d + 1) p.tree ((Quiet, t.Close) ∷ (Nests (d + 1), t.Limits) ∷ second))) (sym w)
+      ∙ p.counts ((Quiet, t.Close) ∷ (Nests (d + 1), t.Limits) ∷ second) ∙ q.counts ((Quiet, t.Comma) ∷ third) ∙ r.counts ((Quiet, t.Square) ∷ more);
   runs = λ c m.
-    without_first g e0 w f n e1 p e2 e3 c.0 c.1 m
-    ∙ q.runs (InBefore c.0 p.tree c.1) (ap (λ m. m + 1) m)
-    ∙ resume_on g3 (behind (InBefore c.0 p.tree c.1) q.tree) Quiet (WantPart FirstPart (InAfter c.0 p.tree q.tree c.1)) e4 refl (quiet g3 q.fine)
-    ∙ r.runs (InAfter c.0 p.tree q.tree c.1) (ap (λ m. m + 1) m)
-    ∙ resume_on g' (behind (InAfter c.0 p.tree q.tree c.1) r.tree) Quiet (HavePart (put c.0 (Without p.tree q.tree r.tree)) c.1) e5 refl (quiet g' r.fine)
-    ∙ part_resumes (put c.0 (Without p.tree q.tree r.tree)) c.1 rest g' }
+      without_first g e0 w f n e1 p e2 e3 c.0 c.1 m
+      ∙ q.runs (InBefore c.0 p.tree c.1) (ap (λ m. m + 1) m)
+      ∙ resume_on g3 (behind (InBefore c.0 p.tree c.1) q.tree) Quiet (WantPart FirstPart (InAfter c.0 p.tree q.tree c.1)) e4 refl (quiet g3 q.fine)
+      ∙ r.runs (InAfter c.0 p.tree q.tree c.1) (ap (λ m. m + 1) m)
+      ∙ resume_on g' (behind (InAfter c.0 p.tree q.tree c.1) r.tree) Quiet (HavePart (put c.0 (Without p.tree q.tree r.tree)) c.1) e5 refl (quiet g' r.fine)
+      ∙ part_resumes (put c.0 (Without p.tree q.tree r.tree)) c.1 rest g';
+}
 
 -- Chains and patterns.
 
@@ -181,10 +213,14 @@ pub chain_more : {ts r1 r2 rest : List Lexeme} {d : ℕ} {g g1 g2 g' : Counted} 
 chain_more {ts} {r1} {r2} {rest} {d} {g} {g1} {g2} {g'} {u} {v} j a e p f b0 s =
     let b : Read part_level part_value r2 d (with_part g1) g' v rest = subst (λ y. Read part_level part_value r2 d y g' v rest) p b0 in
     record {
-      tree = More a.tree j b.tree; says = λ names q. cc (earlier a b names q, b.says names q, s);
-      grows = extends_trans a.grows b.grows; fine = b.fine; shorter = omega (arith, a.shorter, ap length e, b.shorter);
+      tree = More a.tree j b.tree;
+      says = λ names q. cc (earlier a b names q, b.says names q, s);
+      grows = extends_trans a.grows b.grows;
+      fine = b.fine;
+      shorter = omega (arith, a.shorter, ap length e, b.shorter);
       counts = λ more. a.counts ((Binary, joint j) ∷ part d b.tree more) ∙ ap (λ y. count_all y (part d b.tree more)) (joint_counts g1 j) ∙ b.counts more;
-      runs = λ k q. link_on (joint_link j) a e (joint_counts g1 j) f k q ∙ b.runs (NextPart a.tree j, k) q }
+      runs = λ k q. link_on (joint_link j) a e (joint_counts g1 j) f k q ∙ b.runs (NextPart a.tree j, k) q;
+    }
 
 chain_over : (k : Stack) (c : Chain) (rest : List Lexeme) (g : Counted) → LacksJoint rest → resume (behind_chain k c) rest g ≡ resume (behind k (Plain c)) rest g
 chain_over k c [] g l = refl
@@ -194,7 +230,14 @@ chain_over k c (x ∷ xs) g l = refl
 
 pub tree_plain : {ts rest : List Lexeme} {d : ℕ} {g g' : Counted} {v : PlainPattern} → Read chain_level chain_value ts d g g' v rest → LacksJoint rest → Read tree_level tree_value ts d g g' v rest
 tree_plain {rest = rest} {g' = g'} c l = record {
-  tree = Plain c.tree; says = c.says; grows = c.grows; fine = c.fine; shorter = c.shorter; counts = c.counts; runs = λ k q. c.runs k q ∙ chain_over k c.tree rest g' l }
+  tree = Plain c.tree;
+  says = c.says;
+  grows = c.grows;
+  fine = c.fine;
+  shorter = c.shorter;
+  counts = c.counts;
+  runs = λ k q. c.runs k q ∙ chain_over k c.tree rest g' l;
+}
 
 where_over : (p : Tree) (k : Stack) (c : Condition) (rest : List Lexeme) (g : Counted) → Lacks sign.Either rest → resume (behind_condition (InWhere p k) c) rest g ≡ resume (behind k (Filtered p c)) rest g
 where_over p k c [] g l = refl
@@ -206,10 +249,14 @@ pub tree_where : {ts r1 r2 rest : List Lexeme} {d : ℕ} {g g1 g2 g' : Counted} 
 tree_where {ts} {r1} {r2} {rest} {d} {g} {g1} {g2} {g'} {u} {w} {v} a e p f b0 l s =
     let b : Read condition_level condition_value r2 d (with_part g1) g' v rest = subst (λ y. Read condition_level condition_value r2 d y g' v rest) p b0 in
     record {
-      tree = Filtered a.tree b.tree; says = λ names q. cc (earlier a b names q, b.says names q, s);
-      grows = extends_trans a.grows b.grows; fine = b.fine; shorter = omega (arith, a.shorter, ap length e, b.shorter);
+      tree = Filtered a.tree b.tree;
+      says = λ names q. cc (earlier a b names q, b.says names q, s);
+      grows = extends_trans a.grows b.grows;
+      fine = b.fine;
+      shorter = omega (arith, a.shorter, ap length e, b.shorter);
       counts = λ more. a.counts ((Binary, t.Where) ∷ condition d b.tree more) ∙ b.counts more;
-      runs = λ k q. link_on where_link a e refl f k q ∙ b.runs (InWhere a.tree k) q ∙ where_over a.tree k b.tree rest g' l }
+      runs = λ k q. link_on where_link a e refl f k q ∙ b.runs (InWhere a.tree k) q ∙ where_over a.tree k b.tree rest g' l;
+    }
 
 after_stuck : (h : ChainHead) (i b : Tree) (k : Stack) (p : Tree) (rest : List Lexeme) (g : Counted) → Lacks sign.Where rest → Lacks sign.Square rest → resume (behind (InAfter h i b k) p) rest g ≡ Err (fault.Syntax (length rest))
 after_stuck h i b k p [] g w l = refl

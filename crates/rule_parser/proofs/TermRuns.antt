@@ -168,8 +168,14 @@ word_counts (Quoted text) g more = refl
 
 pub term_word : (k : Kind) {ts rest : List Lexeme} {d : ℕ} {g : Counted} {v : Pat} → Fine g → WordRead ts v rest → Read (term_level k) (term_of k) ts d g g v rest
 term_word k {ts} {rest} {d} {g} {v} f w = record {
-  tree = Lone w.literal; says = λ names e. w.says; grows = extends_refl g.names; fine = f; shorter = word_shorter w.literal ts rest w.tokens; counts = word_counts w.literal g;
-  runs = λ c q. word_runs k w.literal ts rest g f w.no_symbol w.tokens c.0 c.1 }
+  tree = Lone w.literal;
+  says = λ names e. w.says;
+  grows = extends_refl g.names;
+  fine = f;
+  shorter = word_shorter w.literal ts rest w.tokens;
+  counts = word_counts w.literal g;
+  runs = λ c q. word_runs k w.literal ts rest g f w.no_symbol w.tokens c.0 c.1;
+}
 
 digits_stuck : (k : Kind) (rest : List Lexeme) (g : Counted) (n : Nest (Leaves k) (Place k)) (b : Before (Leaves k)) → LacksDigits rest → run rest g (in_list k (WantDigits n b)) ≡ Err (fault.Syntax (length rest))
 digits_stuck k [] g n b h = list_ended k (WantDigits n b) g
@@ -220,11 +226,16 @@ leaf_spelled Argument x w e = cc
 
 pub term_leaf : (k : Kind) {ts rest : List Lexeme} {x : Lexeme} {d : ℕ} {g g' : Counted} {v : Pat} → ts ≡ x ∷ rest → LeafRead k x g g' v → Read (term_level k) (term_of k) ts d g g' v rest
 term_leaf k {ts} {rest} {x} {d} {g} {g'} {v} e w = record {
-  tree = Leaf w.leaf; says = w.says; grows = w.grows; fine = w.fine; shorter = omega (arith, ap length e);
+  tree = Leaf w.leaf;
+  says = w.says;
+  grows = w.grows;
+  fine = w.fine;
+  shorter = omega (arith, ap length e);
   counts = λ more. ap (λ h. count_all h more) (ap (λ y. count g (Quiet, y)) (sym (leaf_spelled k x w.leaf w.reads)) ∙ w.counts);
   runs = λ c q.
-    list_on k g (WantTerm c.0 c.1) (HaveTerms c.0 (put_term c.1 (Leaf w.leaf))) Quiet e (leaf_stays k x w.leaf c.0 c.1 w.reads) (ap (λ h. passed h Quiet) w.counts ∙ quiet g' w.fine)
-    ∙ ap (λ h. run rest h (in_list k (HaveTerms c.0 (put_term c.1 (Leaf w.leaf))))) w.counts ∙ have_resumes k rest g' c.0 _ }
+      list_on k g (WantTerm c.0 c.1) (HaveTerms c.0 (put_term c.1 (Leaf w.leaf))) Quiet e (leaf_stays k x w.leaf c.0 c.1 w.reads) (ap (λ h. passed h Quiet) w.counts ∙ quiet g' w.fine)
+      ∙ ap (λ h. run rest h (in_list k (HaveTerms c.0 (put_term c.1 (Leaf w.leaf))))) w.counts ∙ have_resumes k rest g' c.0 _;
+}
 
 pub leaf_fails : (k : Kind) {ts rest : List Lexeme} {x : Lexeme} {d : ℕ} {g : Counted} {e : Fault} → ts ≡ x ∷ rest → LeafFails ts k x g e → (c : Nest (Leaves k) (Place k) × Before (Leaves k)) → level (base k) c.0 ≡ d
     → run ts g (in_list k (WantTerm c.0 c.1)) ≡ Err e
@@ -255,44 +266,61 @@ term_ended k {ts} {d} g e c p = ap (λ l. run l g (in_list k (WantTerm c.0 c.1))
 pub term_symbol : (k : Kind) {ts rest : List Lexeme} {d : ℕ} {g : Counted} {name v : List ℕ} → Fine g → ts ≡ t.Name name ∷ rest → Lacks sign.Open rest → v ≡ name
     → Read (term_level k) (term_of k) ts d g g (pat.Sym v) rest
 term_symbol k {ts} {rest} {d} {g} {name} {v} f e h same = record {
-  tree = Lone (Symbol name); says = λ names q. ap pat.Sym (sym same); grows = extends_refl g.names; fine = f; shorter = omega (arith, ap length e); counts = λ more. refl;
-  runs = λ c q. list_on k g (WantTerm c.0 c.1) (HaveName c.0 c.1 name) Quiet e refl (quiet g f) ∙ name_resumes k rest g c.0 c.1 name h }
+  tree = Lone (Symbol name);
+  says = λ names q. ap pat.Sym (sym same);
+  grows = extends_refl g.names;
+  fine = f;
+  shorter = omega (arith, ap length e);
+  counts = λ more. refl;
+  runs = λ c q. list_on k g (WantTerm c.0 c.1) (HaveName c.0 c.1 name) Quiet e refl (quiet g f) ∙ name_resumes k rest g c.0 c.1 name h;
+}
 
 pub term_compound : (k : Kind) {ts r1 r2 rest : List Lexeme} {d : ℕ} {g g' : Counted} {name v : List ℕ} {vs : List Pat} → Fine g → d + 1 ≤ 16 → ts ≡ t.Name name ∷ r1 → r1 ≡ t.Open ∷ r2
     → ListRead k r2 (d + 1) g g' vs rest → v ≡ name → Read (term_level k) (term_of k) ts d g g' (pat.Comp v vs) rest
 term_compound k {ts} {r1} {r2} {rest} {d} {g} {g'} {name} {v} {vs} f h e1 e2 l same = record {
-  tree = Compound name l.read.tree; says = λ names q. ap (λ n. pat.Comp n (terms_of k names l.read.tree)) (sym same) ∙ ap (pat.Comp v) (l.read.says names q);
-  grows = l.read.grows; fine = l.read.fine; shorter = omega (arith, ap length e1, ap length e2, l.read.shorter, ap length l.close);
+  tree = Compound name l.read.tree;
+  says = λ names q. ap (λ n. pat.Comp n (terms_of k names l.read.tree)) (sym same) ∙ ap (pat.Comp v) (l.read.says names q);
+  grows = l.read.grows;
+  fine = l.read.fine;
+  shorter = omega (arith, ap length e1, ap length e2, l.read.shorter, ap length l.close);
   counts = λ more. l.read.counts ((Quiet, t.Close) ∷ more);
   runs = λ c q.
-    list_on k g (WantTerm c.0 c.1) (HaveName c.0 c.1 name) Quiet e1 refl (quiet g f)
-    ∙ list_on k g (HaveName c.0 c.1 name) (WantTerm (Inside c.0 c.1 name) Start) (Deepens (level (base k) c.0 + 1)) e2 refl
-        (fits g (Deepens (level (base k) c.0 + 1)) which.TermDepth 16 (level (base k) c.0 + 1) f refl (omega arith))
-    ∙ l.read.runs (Inside c.0 c.1 name) (ap (λ n. n + 1) q)
-    ∙ resume_on g' (λ x. turn_of k (behind_terms (Inside c.0 c.1 name) l.read.tree x)) Quiet (in_list k (HaveTerms c.0 (put_term c.1 (Compound name l.read.tree)))) l.close (list_stays k Quiet (HaveTerms c.0 (put_term c.1 (Compound name l.read.tree)))) (quiet g' l.read.fine)
-    ∙ have_resumes k rest g' c.0 _ }
+      list_on k g (WantTerm c.0 c.1) (HaveName c.0 c.1 name) Quiet e1 refl (quiet g f)
+      ∙ list_on k g (HaveName c.0 c.1 name) (WantTerm (Inside c.0 c.1 name) Start) (Deepens (level (base k) c.0 + 1)) e2 refl
+      (fits g (Deepens (level (base k) c.0 + 1)) which.TermDepth 16 (level (base k) c.0 + 1) f refl (omega arith))
+      ∙ l.read.runs (Inside c.0 c.1 name) (ap (λ n. n + 1) q)
+      ∙ resume_on g' (λ x. turn_of k (behind_terms (Inside c.0 c.1 name) l.read.tree x)) Quiet (in_list k (HaveTerms c.0 (put_term c.1 (Compound name l.read.tree)))) l.close (list_stays k Quiet (HaveTerms c.0 (put_term c.1 (Compound name l.read.tree)))) (quiet g' l.read.fine)
+      ∙ have_resumes k rest g' c.0 _;
+}
 
 pub compound_deep : (k : Kind) {ts r1 r2 : List Lexeme} {d : ℕ} {g : Counted} {name : List ℕ} → Fine g → 16 ≤ d → ts ≡ t.Name name ∷ r1 → r1 ≡ t.Open ∷ r2
     → (c : Nest (Leaves k) (Place k) × Before (Leaves k)) → level (base k) c.0 ≡ d → run ts g (in_list k (WantTerm c.0 c.1)) ≡ Err (fault.Limit which.TermDepth (length r1))
 compound_deep k {ts} {r1} {r2} {d} {g} {name} f h e1 e2 c q =
     list_on k g (WantTerm c.0 c.1) (HaveName c.0 c.1 name) Quiet e1 refl (quiet g f)
     ∙ list_off k g (HaveName c.0 c.1 name) (WantTerm (Inside c.0 c.1 name) Start) (Deepens (level (base k) c.0 + 1)) which.TermDepth e2 refl
-        (exceeds g (Deepens (level (base k) c.0 + 1)) which.TermDepth 16 (level (base k) c.0 + 1) f refl (omega arith))
+    (exceeds g (Deepens (level (base k) c.0 + 1)) which.TermDepth 16 (level (base k) c.0 + 1) f refl (omega arith))
 
 pub compound_fails : (k : Kind) {ts r1 r2 : List Lexeme} {d : ℕ} {g : Counted} {name : List ℕ} (e : Stop) → Fine g → d + 1 ≤ 16 → ts ≡ t.Name name ∷ r1 → r1 ≡ t.Open ∷ r2
     → ((n : Nest (Leaves k) (Place k)) → level (base k) n ≡ d + 1 → Fails e (run r2 g (in_list k (WantTerm n Start))))
     → (c : Nest (Leaves k) (Place k) × Before (Leaves k)) → level (base k) c.0 ≡ d → Fails e (run ts g (in_list k (WantTerm c.0 c.1)))
 compound_fails k {ts} {r1} {r2} {d} {g} {name} e f h e1 e2 fails c q =
     fails_along e (list_on k g (WantTerm c.0 c.1) (HaveName c.0 c.1 name) Quiet e1 refl (quiet g f)
-      ∙ list_on k g (HaveName c.0 c.1 name) (WantTerm (Inside c.0 c.1 name) Start) (Deepens (level (base k) c.0 + 1)) e2 refl
-          (fits g (Deepens (level (base k) c.0 + 1)) which.TermDepth 16 (level (base k) c.0 + 1) f refl (omega arith)))
-      (fails (Inside c.0 c.1 name) (ap (λ n. n + 1) q))
+    ∙ list_on k g (HaveName c.0 c.1 name) (WantTerm (Inside c.0 c.1 name) Start) (Deepens (level (base k) c.0 + 1)) e2 refl
+    (fits g (Deepens (level (base k) c.0 + 1)) which.TermDepth 16 (level (base k) c.0 + 1) f refl (omega arith)))
+    (fails (Inside c.0 c.1 name) (ap (λ n. n + 1) q))
 
 -- Arguments.
 
 pub terms_one : (k : Kind) {ts rest : List Lexeme} {d : ℕ} {g g' : Counted} {v : Pat} {vs : List Pat} → Read (term_level k) (term_of k) ts d g g' v rest → vs ≡ v ∷ [] → Read (terms_level k) (terms_of k) ts d g g' vs rest
 terms_one k {vs = vs} a e = record {
-  tree = First a.tree; says = λ names q. ap (λ x. x ∷ []) (a.says names q) ∙ sym e; grows = a.grows; fine = a.fine; shorter = a.shorter; counts = a.counts; runs = λ n q. a.runs (n, Start) q }
+  tree = First a.tree;
+  says = λ names q. ap (λ x. x ∷ []) (a.says names q) ∙ sym e;
+  grows = a.grows;
+  fine = a.fine;
+  shorter = a.shorter;
+  counts = a.counts;
+  runs = λ n q. a.runs (n, Start) q;
+}
 
 length_terms : (k : Kind) (names : List (List ℕ)) (as' : Arguments (Leaves k)) → length (terms_of k names as') ≡ count_of as'
 length_terms k names (First a) = refl
@@ -309,29 +337,32 @@ pub terms_more : (k : Kind) {ts r1 r2 rest : List Lexeme} {d : ℕ} {g g1 g' : C
 terms_more k {ts} {r1} {r2} {rest} {d} {g} {g1} {g'} {vs} {ws} {v} a h e b same = record {
   tree = Next a.tree b.tree;
   says = λ names q. ap (λ l. l ++ term_of k names b.tree ∷ []) (a.says names (extends_trans b.grows q)) ∙ ap (λ x. vs ++ x ∷ []) (b.says names q) ∙ sym same;
-  grows = extends_trans a.grows b.grows; fine = b.fine; shorter = omega (arith, a.shorter, ap length e, b.shorter);
+  grows = extends_trans a.grows b.grows;
+  fine = b.fine;
+  shorter = omega (arith, a.shorter, ap length e, b.shorter);
   counts = λ more. a.counts ((Counts (count_of a.tree + 1), t.Comma) ∷ term (leaf_lexeme k) Quiet d b.tree more) ∙ b.counts more;
   runs = λ n q.
-    a.runs n q
-    ∙ resume_on g1 (λ x. turn_of k (behind_terms n a.tree x)) (Counts (count_of a.tree + 1)) (in_list k (WantTerm n (Behind a.tree))) e (comma_on k n a.tree)
-        (fits g1 (Counts (count_of a.tree + 1)) which.TermWidth 16 (count_of a.tree + 1) a.fine refl (let c = counted_terms k a in omega arith))
-    ∙ b.runs (n, Behind a.tree) q }
+      a.runs n q
+      ∙ resume_on g1 (λ x. turn_of k (behind_terms n a.tree x)) (Counts (count_of a.tree + 1)) (in_list k (WantTerm n (Behind a.tree))) e (comma_on k n a.tree)
+      (fits g1 (Counts (count_of a.tree + 1)) which.TermWidth 16 (count_of a.tree + 1) a.fine refl (let c = counted_terms k a in omega arith))
+      ∙ b.runs (n, Behind a.tree) q;
+}
 
 pub terms_wide : (k : Kind) {ts r1 r2 : List Lexeme} {d : ℕ} {g g1 : Counted} {vs : List Pat} → (a : Read (terms_level k) (terms_of k) ts d g g1 vs r1) → 16 ≤ length vs → r1 ≡ t.Comma ∷ r2
     → (n : Nest (Leaves k) (Place k)) → level (base k) n ≡ d → run ts g (in_list k (WantTerm n Start)) ≡ Err (fault.Limit which.TermWidth (length r1))
 terms_wide k {ts} {r1} {r2} {d} {g} {g1} {vs} a h e n q =
     a.runs n q
     ∙ resume_off g1 (λ x. turn_of k (behind_terms n a.tree x)) (Counts (count_of a.tree + 1)) (in_list k (WantTerm n (Behind a.tree))) which.TermWidth e (comma_on k n a.tree)
-        (exceeds g1 (Counts (count_of a.tree + 1)) which.TermWidth 16 (count_of a.tree + 1) a.fine refl (let c = counted_terms k a in omega arith))
+    (exceeds g1 (Counts (count_of a.tree + 1)) which.TermWidth 16 (count_of a.tree + 1) a.fine refl (let c = counted_terms k a in omega arith))
 
 pub terms_fail : (k : Kind) {ts r1 r2 : List Lexeme} {d : ℕ} {g g1 : Counted} {vs : List Pat} (e : Stop) → (a : Read (terms_level k) (terms_of k) ts d g g1 vs r1) → length vs < 16 → r1 ≡ t.Comma ∷ r2
     → ((c : Nest (Leaves k) (Place k) × Before (Leaves k)) → level (base k) c.0 ≡ d → Fails e (run r2 g1 (in_list k (WantTerm c.0 c.1))))
     → (n : Nest (Leaves k) (Place k)) → level (base k) n ≡ d → Fails e (run ts g (in_list k (WantTerm n Start)))
 terms_fail k {ts} {r1} {r2} {d} {g} {g1} {vs} e a h q fails n p =
     fails_along e (a.runs n p
-      ∙ resume_on g1 (λ x. turn_of k (behind_terms n a.tree x)) (Counts (count_of a.tree + 1)) (in_list k (WantTerm n (Behind a.tree))) q (comma_on k n a.tree)
-          (fits g1 (Counts (count_of a.tree + 1)) which.TermWidth 16 (count_of a.tree + 1) a.fine refl (let c = counted_terms k a in omega arith)))
-      (fails (n, Behind a.tree) p)
+    ∙ resume_on g1 (λ x. turn_of k (behind_terms n a.tree x)) (Counts (count_of a.tree + 1)) (in_list k (WantTerm n (Behind a.tree))) q (comma_on k n a.tree)
+    (fits g1 (Counts (count_of a.tree + 1)) which.TermWidth 16 (count_of a.tree + 1) a.fine refl (let c = counted_terms k a in omega arith)))
+    (fails (n, Behind a.tree) p)
 
 pub terms_closed : (k : Kind) {ts r1 rest : List Lexeme} {d : ℕ} {g g' : Counted} {vs : List Pat} → Read (terms_level k) (terms_of k) ts d g g' vs r1 → r1 ≡ t.Close ∷ rest → ListRead k ts d g g' vs rest
 terms_closed k {r1 = r1} a e = record { closed = r1; close = e; read = a }
@@ -367,25 +398,49 @@ pub leaf_variable : (k : Kind) {x : Lexeme} {g g' : Counted} {name : List ℕ} {
     → g' ≡ with_variable g name → Fine (with_variable g name) → LeafRead k x g g' (pat.Var slot)
 leaf_variable Ground n e s h f = absurd (n refl)
 leaf_variable Operand {x} {g} {g'} {name} {slot} n e s h f = record {
-  leaf = name; reads = ap reads_variable e; says = λ names q. ap pat.Var (s names q); grows = subst (λ y. Extends g.names y.names) (sym h) (extends_name g.names name);
-  counts = ap (λ y. count g (Quiet, y)) e ∙ sym h; fine = subst Fine (sym h) f }
+  leaf = name;
+  reads = ap reads_variable e;
+  says = λ names q. ap pat.Var (s names q);
+  grows = subst (λ y. Extends g.names y.names) (sym h) (extends_name g.names name);
+  counts = ap (λ y. count g (Quiet, y)) e ∙ sym h;
+  fine = subst Fine (sym h) f;
+}
 leaf_variable Argument {x} {g} {g'} {name} {slot} n e s h f = record {
-  leaf = Variable name; reads = ap reads_wanted e; says = λ names q. ap pat.Var (s names q); grows = subst (λ y. Extends g.names y.names) (sym h) (extends_name g.names name);
-  counts = ap (λ y. count g (Quiet, y)) e ∙ sym h; fine = subst Fine (sym h) f }
+  leaf = Variable name;
+  reads = ap reads_wanted e;
+  says = λ names q. ap pat.Var (s names q);
+  grows = subst (λ y. Extends g.names y.names) (sym h) (extends_name g.names name);
+  counts = ap (λ y. count g (Quiet, y)) e ∙ sym h;
+  fine = subst Fine (sym h) f;
+}
 
 pub leaf_variable_err : (k : Kind) (ts : List Lexeme) {x : Lexeme} {g : Counted} (g' : Counted) {name : List ℕ} (e : Stop) → Fine g → ¬ (k ≡ Ground) → x ≡ t.Var name → SlotStops ts g name e → LeafAnswer ts x k g g' (Err e)
 leaf_variable_err k ts g' stop.Memory f n q h = tt
 leaf_variable_err Ground ts g' (stop.Fault y) f n q h = absurd (n refl)
 leaf_variable_err Operand ts {x} {g} g' {name} (stop.Fault y) f n q h = record {
-  leaf = name; reads = ap reads_variable q; place = h.0; passes = ap (λ z. passed (count g (Quiet, z)) Quiet) q ∙ too_many_names (with_variable g name) Quiet f.parts h.1 }
+  leaf = name;
+  reads = ap reads_variable q;
+  place = h.0;
+  passes = ap (λ z. passed (count g (Quiet, z)) Quiet) q ∙ too_many_names (with_variable g name) Quiet f.parts h.1;
+}
 leaf_variable_err Argument ts {x} {g} g' {name} (stop.Fault y) f n q h = record {
-  leaf = Variable name; reads = ap reads_wanted q; place = h.0; passes = ap (λ z. passed (count g (Quiet, z)) Quiet) q ∙ too_many_names (with_variable g name) Quiet f.parts h.1 }
+  leaf = Variable name;
+  reads = ap reads_wanted q;
+  place = h.0;
+  passes = ap (λ z. passed (count g (Quiet, z)) Quiet) q ∙ too_many_names (with_variable g name) Quiet f.parts h.1;
+}
 
 pub leaf_anything : (k : Kind) {x : Lexeme} {g : Counted} → Fine g → k ≡ Argument → x ≡ t.Wild → LeafRead k x g g pat.Any
 leaf_anything Ground f e q = cc
 leaf_anything Operand f e q = cc
 leaf_anything Argument {x} {g} f e q = record {
-  leaf = Anything; reads = ap reads_wanted q; says = λ names h. refl; grows = extends_refl g.names; counts = ap (λ y. count g (Quiet, y)) q; fine = f }
+  leaf = Anything;
+  reads = ap reads_wanted q;
+  says = λ names h. refl;
+  grows = extends_refl g.names;
+  counts = ap (λ y. count g (Quiet, y)) q;
+  fine = f;
+}
 
 pub no_anything : (k : Kind) {x : Lexeme} → ¬ (k ≡ Argument) → x ≡ t.Wild → leaf_read k x ≡ None
 no_anything Ground n e = refl

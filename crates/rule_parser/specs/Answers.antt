@@ -6,7 +6,9 @@ use Rattle.rule_ast.specs.declared.statements.RuleSet.{RuleSet}
 use Rattle.rule_tokens.specs.declared.lexemes.Lexeme.{Lexeme}
 use Rattle.rule_tokens.specs.Lexing.{Lexing}
 use Rattle.rule_grammar.specs.declared.faults.Which.{Which}
-use Rattle.rule_grammar.specs.Trees.{Statements}
+use Rattle.rule_grammar.specs.declared.faults.Fault.TheVariants as fault
+use Rattle.rule_grammar.specs.Trees.{Statements, Statements.Empty}
+use Rattle.rule_grammar.specs.Machine.{run, State.Between}
 use Rattle.rule_grammar.specs.Marks.{Marked, nothing_counted}
 use Rattle.rule_grammar.specs.Tokens.{bare}
 use Rattle.rule_grammar.specs.Texts.{IsWithin, Reads, Viable, SyntaxAt, LimitAt}
@@ -79,3 +81,25 @@ Gives rules (Ok r) = plain_rules r ≡ rules
 Gives rules (Err (Syntax at)) = ⊥
 Gives rules (Err (Limit which at)) = ⊥
 Gives rules (Err Memory) = Unit {0}
+
+-- the same, by what a run over the tokens says
+pub record Fits (lexemes : List Lexeme) (rules : List PlainStatement) : Type 0 where
+  pub tree : Statements
+  pub runs : run lexemes nothing_counted (Between Empty) ≡ Ok tree
+  pub says : text_value tree ≡ rules
+
+pub record Misfits (lexemes : List Lexeme) (places : List ℕ) (end : ℕ) (whole : Bool) (at : ℕ) : Type 0 where
+  pub left : ℕ
+  pub place : at ≡ place_of places end left
+  pub runs : (run lexemes nothing_counted (Between Empty) ≡ Err (fault.Syntax left)) ⊎ ((whole ≡ false) × (left ≡ 0) × (tree : Statements) × (run lexemes nothing_counted (Between Empty) ≡ Ok tree))
+
+pub record Passes (lexemes : List Lexeme) (places : List ℕ) (end : ℕ) (which : Which) (at : ℕ) : Type 0 where
+  pub left : ℕ
+  pub place : at ≡ place_of places end left
+  pub runs : run lexemes nothing_counted (Between Empty) ≡ Err (fault.Limit which left)
+
+abbrev pub Parsed : List Lexeme → List ℕ → ℕ → Bool → Result RuleSet ParseFault → Type 0
+Parsed lexemes places end whole (Ok r) = (whole ≡ true) × Fits lexemes (plain_rules r)
+Parsed lexemes places end whole (Err (Syntax at)) = Misfits lexemes places end whole at
+Parsed lexemes places end whole (Err (Limit which at)) = Passes lexemes places end which at
+Parsed lexemes places end whole (Err Memory) = Unit {0}

@@ -157,18 +157,20 @@ Within k = Nest (Leaves k) (Place k) × Before (Leaves k)
 
 abbrev pub term_level : (k : Kind) → Level (Within k) (Term (Leaves k))
 term_level k = record {
-    tokens = λ d a more. term (leaf_lexeme k) Quiet d a more;
-    depth = λ c. level (base k) c.0;
-    state = λ c. in_list k (WantTerm c.0 c.1);
-    behind = λ c a x. turn_of k (behind_terms c.0 (put_term c.1 a) x) }
+  tokens = λ d a more. term (leaf_lexeme k) Quiet d a more;
+  depth = λ c. level (base k) c.0;
+  state = λ c. in_list k (WantTerm c.0 c.1);
+  behind = λ c a x. turn_of k (behind_terms c.0 (put_term c.1 a) x);
+}
 
 -- arguments without the bracket that closes their list
 abbrev pub terms_level : (k : Kind) → Level (Nest (Leaves k) (Place k)) (Arguments (Leaves k))
 terms_level k = record {
-    tokens = λ d as' more. arguments (leaf_lexeme k) d as' more;
-    depth = λ n. level (base k) n;
-    state = λ n. in_list k (WantTerm n Start);
-    behind = λ n as' x. turn_of k (behind_terms n as' x) }
+  tokens = λ d as' more. arguments (leaf_lexeme k) d as' more;
+  depth = λ n. level (base k) n;
+  state = λ n. in_list k (WantTerm n Start);
+  behind = λ n as' x. turn_of k (behind_terms n as' x);
+}
 
 -- arguments were read, and the bracket behind them
 pub record ListRead (k : Kind) (ts : List Lexeme) (d : ℕ) (g g' : Counted) (vs : List Pat) (rest : List Lexeme) : Type 0 where

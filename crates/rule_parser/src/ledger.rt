@@ -16,6 +16,7 @@ use rule_grammar::Which;
 use rule_tokens::Lexeme;
 
 const MOST_PARTS: u16 = 256;
+
 const MOST_NAMES: usize = 64;
 
 /// The parts of a rule so far, and its variables in the order of first occurrence.

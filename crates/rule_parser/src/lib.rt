@@ -11,13 +11,8 @@ mod signs;
 mod statements;
 mod terms;
 
-pub use conditions::condition_at;
 pub use faults::ParseFault;
-pub use ledger::{Ledger, add_part, slot_of};
-pub use patterns::pattern_at;
-pub use heads::head_at;
-pub use statements::statements_of;
 pub use parsing::{one_meaning, parse};
-pub use signs::{sign_of, take_first, skip, syntax, limit, expect, take_joint, take_adding, take_scaling, take_compare, take_bound, Bound, Sign, Joint, Adding, Scaling};
-pub use terms::{Kind, arguments_at, term_at, word_at};
-pub use faults::Stop;
+
+#[cfg(test)]
+mod tests;

@@ -22,6 +22,7 @@ use rule_tokens::Lexeme;
 use std::alloc::{AllocError, Global};
 
 const DEEPEST: u8 = 32;
+
 const LONGEST: u64 = 1 << 62;
 
 // The atom that begins with a name.

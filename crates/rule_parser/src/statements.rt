@@ -1,6 +1,6 @@
 //! Statements of a rule file.
 
-ghost use Rattle.std.specs.Prelude.{◌≡◌, ◌≤◌, List};
+ghost use Rattle.std.specs.Prelude.{◌≡◌, ◌∷◌, ◌≤◌, List};
 ghost use Rattle.rule_ast.specs.Plain.{plain_rule};
 ghost use Rattle.rule_grammar.specs.Machine.{State.HeadName, State.WantItem, ItemsHead.FirstShown};
 ghost use Rattle.rule_parser.specs.Steps.{StatementAnswer, ItemAnswer, NextAnswer, WholeAnswer, clause_of, show_of, named_state, shown_state};
@@ -17,6 +17,7 @@ use rule_tokens::Lexeme;
 use std::alloc::Global;
 
 const WIDEST: u64 = 16;
+
 const MOST: usize = 1024;
 
 // The rule whose head's name stood before.
@@ -80,13 +81,17 @@ fn show_at(alloc: Global, tokens: &[Lexeme]) -> Result<(Vec<NameArity>, &[Lexeme
     Ok((names, rest))
 }
 
-// The statement that stands first, behind so many.
-fn statement_at(alloc: Global, tokens: &[Lexeme], done: usize) -> Result<(Statement, &[Lexeme]), Stop>
+// The statement that begins with a token, behind so many.
+fn statement_at<'a>(
+    alloc: Global,
+    tokens: &'a [Lexeme],
+    first: &Lexeme,
+    rest: &'a [Lexeme],
+    done: usize,
+) -> Result<(Statement, &'a [Lexeme]), Stop>
+    requires { tokens.now ≡ first.now ∷ rest.now }
     ensures { NextAnswer tokens.now done result }
 {
-    let Some((first, rest)) = take_first(tokens) else {
-        return Err(syntax(tokens));
-    };
     match first {
         Lexeme::Name(name) => {
             if done >= MOST {
@@ -112,8 +117,8 @@ pub fn statements_of(alloc: Global, tokens: &[Lexeme]) -> Result<Vec<Statement>,
 {
     let mut statements = Vec::new(alloc);
     let mut rest = tokens;
-    while !rest.is_empty() {
-        let (statement, after) = statement_at(alloc, rest, statements.len())?;
+    while let Some((first, behind)) = take_first(rest) {
+        let (statement, after) = statement_at(alloc, rest, first, behind, statements.len())?;
         statements.push(statement)?;
         rest = after;
     }

@@ -14,6 +14,7 @@ use rule_tokens::Lexeme;
 use std::alloc::Global;
 
 const DEEPEST: u8 = 16;
+
 const WIDEST: usize = 16;
 
 /// What may stand for a term: nothing, a variable, or a variable or `_`.

@@ -19,7 +19,7 @@ returns-then-len-ge-WIDEST c =
 pub returns-in_err-arg : goal.returns-in_err-arg
 returns-in_err-arg c =
     let p = err_from_is_err_and c.from_residual-in_err-arg.result c.from_residual-in_err-arg.ensures.1 in
-    rw (p.1, p.2) (heads_fail _ c.loop-more.invariant (search (rules, c.if-len-ge-WIDEST.false, c.len.ensures)) c.in-Some.ensures c.in_err-arg.ensures)
+    rw (p.1, p.2) (heads_fail _ c.loop-more.invariant (search (rules, c.if-len-ge-WIDEST.false, c.len.ensures)) c.in-Some.ensures (λ n. c.in_err-arg.ensures n refl))
 
 pub loop-more-preserved : goal.loop-more-preserved
 loop-more-preserved c =

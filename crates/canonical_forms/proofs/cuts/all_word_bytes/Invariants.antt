@@ -1,7 +1,0 @@
-use Rattle.std.proofs.Common.{◌≡◌, drop}
-use Rattle.std.specs.List.{list_all}
-use Rattle.canonical_forms.specs.Pieces.{is_word_byte}
-use Rattle.canonical_forms.proofs.cuts.all_word_bytes.Given as goal
-
-abbrev pub invariant-loop-b : goal.invariant-loop-b
-invariant-loop-b l = list_all is_word_byte l.bytes ≡ list_all is_word_byte (drop l.b-index l.bytes)

@@ -1,0 +1,33 @@
+use Rattle.std.specs.Prelude.{IfSome}
+use Rattle.flow_ports.specs.Flow.{Gives}
+use Rattle.ev_term.specs.Lines.{ended}
+use Rattle.etalis_cli.specs.Output.{start, replies, out_text}
+use Rattle.etalis_cli.specs.Run.{form, PartFor, OnTaken}
+use Rattle.etalis_cli.proofs.TopLaws.{on_read, long_on_read, none_for, done_cause, unread_cause, long_cause}
+use Rattle.etalis_cli.proofs.top.work.Goals as goal
+
+pub returns-in-Err-clause-part : goal.returns-in-Err-clause-part
+returns-in-Err-clause-part g c = none_for _ (g.I.Source.left c.args.input.now) (g.O.Sink.got c.args.out.now)
+
+pub returns-clause-done : goal.returns-clause-done
+returns-clause-done g c = λ e.
+    on_read (form c.args.words.now) c.in-Some.name.now (g.S.Shelf.holds c.args.shelf.now) c.in-Ok.rule
+    (λ rules. IfSome (g.I.Source.left c.args.input.now) (λ bytes. Gives (g.O.Sink.got c.args.out.now) (g.O.Sink.got c.run_rule.new.out) (out_text rules bytes))) c.in-Some.ensures c.in-Ok.ensures.accepted
+    (c.run_rule.ensures.done (done_cause c.run_rule.result e))
+
+pub returns-clause-part : goal.returns-clause-part
+returns-clause-part g c =
+    on_read (form c.args.words.now) c.in-Some.name.now (g.S.Shelf.holds c.args.shelf.now) c.in-Ok.rule
+    (λ rules. PartFor rules (g.I.Source.left c.args.input.now) (g.I.Source.left c.run_rule.new.input) (g.O.Sink.got c.args.out.now) (g.O.Sink.got c.run_rule.new.out)) c.in-Some.ensures c.in-Ok.ensures.accepted c.run_rule.ensures.part
+
+pub returns-clause-replied : goal.returns-clause-replied
+returns-clause-replied g c = λ e.
+    on_read (form c.args.words.now) c.in-Some.name.now (g.S.Shelf.holds c.args.shelf.now) c.in-Ok.rule
+    (λ rules. OnTaken (g.I.Source.left c.args.input.now) (g.I.Source.left c.run_rule.new.input) (λ taken. Gives (g.O.Sink.got c.args.out.now) (g.O.Sink.got c.run_rule.new.out) (replies (start rules) (ended taken))))
+    c.in-Some.ensures c.in-Ok.ensures.accepted (c.run_rule.ensures.replied (unread_cause c.run_rule.result c.run_rule.ensures.causes e))
+
+pub returns-clause-long_replied : goal.returns-clause-long_replied
+returns-clause-long_replied g c = λ e.
+    long_on_read (form c.args.words.now) c.in-Some.name.now (g.S.Shelf.holds c.args.shelf.now) c.in-Ok.rule _
+    (λ rules. OnTaken (g.I.Source.left c.args.input.now) (g.I.Source.left c.run_rule.new.input) (λ taken. Gives (g.O.Sink.got c.args.out.now) (g.O.Sink.got c.run_rule.new.out) (replies (start rules) (ended taken))))
+    c.in-Some.ensures c.in-Ok.ensures.accepted (c.run_rule.ensures.long_replied (long_cause c.run_rule.result e))

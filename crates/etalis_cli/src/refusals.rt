@@ -1,0 +1,13 @@
+// Why a rule file is refused.
+use rule_grammar::Which;
+
+/// Why a rule file is refused. A place is a number of bytes from the file's begin.
+#[derive(Clone, Copy, Debug, PartialEq, Eq)]
+pub enum Refusal {
+    TooLong,
+    /// The longest first part that is UTF-8 ends there.
+    NotUtf8(usize),
+    Syntax(usize),
+    Limit(Which, usize),
+    Unbuilt,
+}

@@ -1,0 +1,69 @@
+-- The names of rules: those that head rules, those that stand in bodies, and those that are shown.
+use Rattle.std.specs.Prelude.{ℕ, ◌≡◌, ◌+◌, ◌<◌, Bool, true, false, cond, get_or, Option, Some, None, List, [], ◌∷◌, ◌++◌, length, map}
+use Rattle.std.specs.Ordering.{nat_cmp, on, then_cmp}
+use Rattle.std.specs.declared.cmp.Ordering.{Ordering}
+use Rattle.ordered_lists.specs.Canon.{canon, has}
+use Rattle.ordered_lists.specs.Canon.{Exact as TellsApart}
+use Rattle.ordered_lists.specs.Orders.{exact_numbers, exact_texts, exact_then}
+use Rattle.ev_term.specs.TermOrder.{bytes_cmp}
+use Rattle.ev_term.specs.declared.atoms.PatAtom.{PatAtom}
+use Rattle.ev_term.specs.declared.atoms.NameArity.{NameArity}
+use Rattle.rule_ast.specs.Trees.{PlainPattern, Atom, Both, Either, Where, Exact, Within, Not, PlainRule, PlainStatement, Clause, Show}
+use Rattle.rule_check.specs.Sound.{rules_of}
+
+-- by name, and then by number of arguments
+abbrev pub name_cmp : NameArity → NameArity → Ordering
+name_cmp = then_cmp (on (λ n. n.name) bytes_cmp) (on (λ n. n.arity) nat_cmp)
+
+pub exact_names : TellsApart name_cmp
+exact_names = exact_then (λ n. n.name) (λ n. n.arity) (λ x y p q i. record { name = p i; arity = q i }) exact_texts exact_numbers
+
+-- the name that an atom is of
+abbrev pub name_of_atom : PatAtom → NameArity
+name_of_atom a = record { name = a.name; arity = length a.args }
+
+abbrev pub head_name : PlainRule → NameArity
+head_name r = name_of_atom r.head
+
+-- the names of a pattern's atoms
+abbrev pub body_names : PlainPattern → List NameArity
+body_names (Atom a) = name_of_atom a ∷ []
+body_names (Both op l r) = body_names l ++ body_names r
+body_names (Either l r) = body_names l ++ body_names r
+body_names (Where p c) = body_names p
+body_names (Exact p q) = body_names p
+body_names (Within p q) = body_names p
+body_names (Not i b a) = body_names i ++ (body_names b ++ body_names a)
+
+-- the names that head rules
+abbrev pub head_names : List PlainRule → List NameArity
+head_names rules = map head_name rules
+
+-- the names of the `show` statements
+abbrev pub shown_names : List PlainStatement → List NameArity
+shown_names [] = []
+shown_names (Clause r ∷ statements) = shown_names statements
+shown_names (Show names ∷ statements) = names ++ shown_names statements
+
+abbrev pub has_show : List PlainStatement → Bool
+has_show [] = false
+has_show (Clause r ∷ statements) = has_show statements
+has_show (Show names ∷ statements) = true
+
+-- the names whose rows are given out, in order and each once: those that are shown, or all that head rules where nothing is
+abbrev pub outputs : List PlainStatement → List NameArity
+outputs statements = canon name_cmp (cond (has_show statements) (shown_names statements) (head_names (rules_of statements)))
+
+-- the numbers of the shown names that head no rule, where the first has this number
+abbrev pub unknown_shows : ℕ → List NameArity → List NameArity → List ℕ
+unknown_shows number heads [] = []
+unknown_shows number heads (n ∷ names) = cond (has name_cmp n heads) [] (number ∷ []) ++ unknown_shows (number + 1) heads names
+
+-- each shown name heads a rule
+abbrev pub AreShownKnown : List PlainStatement → Type 0
+AreShownKnown statements = (n : NameArity) → has name_cmp n (shown_names statements) ≡ true → has name_cmp n (head_names (rules_of statements)) ≡ true
+
+-- where a name stands in a list, or that it doesn't
+abbrev pub IsPlace : Option ℕ → NameArity → List NameArity → Type 0
+IsPlace None n names = has name_cmp n names ≡ false
+IsPlace (Some i) n names = (i < length names) × ((d : NameArity) → get_or names i d ≡ n)

@@ -1,0 +1,61 @@
+// Whether the variables of rules are bound where they are used.
+ghost use Rattle.std.specs.Prelude.{◌≡◌, ◌<◌, true, length, map, IfOk};
+ghost use Rattle.rule_ast.specs.Plain.{plain_rule, plain_statement};
+ghost use Rattle.rule_ast.specs.Shaped.{is_shaped_rule, IsShaped};
+ghost use Rattle.rule_check.specs.Faults.{name_of, rule_faults, variable_faults, IsVerdict};
+ghost use Rattle.rule_check.specs.Sound.{rules_of};
+
+use crate::faults::CheckFault;
+use crate::offenders::{head_offender, not_offender, or_offender, where_offender};
+use ev_term::{Name, Slot};
+use rule_ast::{Rule, Statement};
+use std::alloc::AllocError;
+
+// What the variable of a slot is called.
+fn name_at(rule: &Rule, slot: Slot) -> Result<Name, AllocError>
+    requires { slot < length rule.now.vars.items }
+    ensures { IfOk result (λ n. n ≡ name_of (plain_rule rule.now) slot) }
+{
+    rule.vars[slot.number() as usize].share()
+}
+
+// The first fault of a rule's variables.
+fn check_rule(rule: &Rule, number: u32) -> Result<(), CheckFault>
+    requires { is_shaped_rule (plain_rule rule.now) ≡ true }
+    ensures { IsVerdict result (rule_faults number (plain_rule rule.now)) }
+{
+    if let Some(slot) = head_offender(rule) {
+        return Err(CheckFault::HeadUnbound(number, name_at(rule, slot)?));
+    }
+    if let Some(slot) = where_offender(&rule.body) {
+        return Err(CheckFault::WhereUnbound(number, name_at(rule, slot)?));
+    }
+    if let Some(slot) = or_offender(&rule.body, &None) {
+        return Err(CheckFault::OrVariables(number, name_at(rule, slot)?));
+    }
+    if let Some(slot) = not_offender(&rule.body, &None) {
+        return Err(CheckFault::NotVariables(number, name_at(rule, slot)?));
+    }
+    Ok(())
+}
+
+// The first fault of the rules' variables.
+pub(crate) fn check_variables(statements: &[Statement]) -> Result<(), CheckFault>
+    requires { IsShaped (map plain_statement statements.now) }
+    ensures { IsVerdict result (variable_faults 1 (rules_of (map plain_statement statements.now))) }
+{
+    let mut number: u32 = 0;
+    for statement in statements {
+        match statement {
+            Statement::Rule(rule) => {
+                number += 1;
+                match check_rule(rule, number) {
+                    Ok(()) => {}
+                    Err(fault) => return Err(fault),
+                }
+            }
+            Statement::Show(_) => {}
+        }
+    }
+    Ok(())
+}
