@@ -1,4 +1,4 @@
--- The canonical text of what a text holds is read as its canonical tree.
+-- The canonical text of what a text holds is read as its canonical tree, and is UTF-8 where the text is.
 use Rattle.std.proofs.Common.{◌≡◌, ℕ, Bool, true, List, [], ◌∷◌, map, length, refl, sym, ap, ◌∙◌, subst}
 use Rattle.std.specs.Prelude.{IsUtf8}
 use Rattle.std.specs.List.{list_all}
