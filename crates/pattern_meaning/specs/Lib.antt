@@ -2,3 +2,5 @@ pub mod Patterns
 pub mod PatternRows
 pub mod Standing
 pub mod Scratch
+pub mod RuleRows
+pub mod Rounds
