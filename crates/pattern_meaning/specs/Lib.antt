@@ -4,3 +4,5 @@ pub mod Standing
 pub mod Scratch
 pub mod RuleRows
 pub mod Rounds
+pub mod Depths
+pub mod WorkedRows
