@@ -134,5 +134,5 @@ module _ (rules : List PlainRule) (events : List PlainEvent) (rank : NameArity �
       at true e lower =
           let r : rank n ≡ greatest (map rank (below rules n)) + 1 = ranking n ∙ ap (λ b. cond b (greatest (map rank (below rules n)) + 1) 0) e in
           ap (λ l. rows_of (rows_of (events_of events n) ++ l)) (heads_same (named_rows rules events k) (named_rows rules events j) (filter (has_head n) rules)
-            (bodies_below (λ m. named_rows rules events k m ≡ named_rows rules events j m) n rules
-              (λ m d. let most = greatest_of rank m (below rules n) d in lower m (omega (arith, r, most, h)) (omega (arith, r, most, g)))))
+          (bodies_below (λ m. named_rows rules events k m ≡ named_rows rules events j m) n rules
+          (λ m d. let most = greatest_of rank m (below rules n) d in lower m (omega (arith, r, most, h)) (omega (arith, r, most, g)))))

@@ -81,11 +81,7 @@ pub(crate) fn join_rows(
 }
 
 // The rows whose binding makes the condition true.
-pub(crate) fn rows_where(
-    alloc: Global,
-    rows: Vec<Row>,
-    cond: &Cond,
-) -> Result<Vec<Row>, AllocError>
+pub(crate) fn rows_where(alloc: Global, rows: Vec<Row>, cond: &Cond) -> Result<Vec<Row>, AllocError>
     ensures { IfOk result (λ v. v.items ≡ rows_of (filter (λ r. holds (plain_cond cond.now) r.binding) rows.items)) }
 {
     let mut kept = Vec::new(alloc);
@@ -139,11 +135,7 @@ pub(crate) fn rows_within(
 
 // The rows that are not among the others.
 #[tactic(auto, using(ev_bind::specs::Rows::exact_rows))]
-fn rows_without(
-    alloc: Global,
-    rows: Vec<Row>,
-    others: &[Row],
-) -> Result<Vec<Row>, AllocError>
+fn rows_without(alloc: Global, rows: Vec<Row>, others: &[Row]) -> Result<Vec<Row>, AllocError>
     requires { Rising row_cmp others.now }
     ensures { IfOk result (λ v. v.items ≡ rows_of (without row_cmp rows.items others.now)) }
 {
