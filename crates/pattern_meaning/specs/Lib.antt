@@ -6,3 +6,4 @@ pub mod RuleRows
 pub mod Rounds
 pub mod Depths
 pub mod WorkedRows
+pub mod WorkedVariables
