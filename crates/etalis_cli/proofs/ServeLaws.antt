@@ -7,7 +7,7 @@ use Rattle.std.specs.Io.KnownBytes.{append_known}
 use Rattle.flow_ports.specs.Flow.{Takes, Gives, GivesPart, IsAtEnd}
 use Rattle.flow_ports.proofs.FlowLemmas.{append_known-append, gives_more, takes_more}
 use Rattle.ev_term.specs.Lines.{ended, rest, ended_from, last_line, lines_of, ended_from-append}
-use Rattle.pattern_meaning.specs.Patterns.{RuleSet}
+use Rattle.rule_ast.specs.Trees.{PlainStatement}
 use Rattle.pattern_meaning.specs.Standing.{end_text}
 use Rattle.etalis_cli.specs.Output.{State, start, after, replies, out_text}
 use Rattle.etalis_cli.specs.StandsFor.{StandsFor}
@@ -18,7 +18,7 @@ use Rattle.etalis_cli.specs.declared.serving.ServeFault.{ServeFault}
 use Rattle.etalis_cli.specs.declared.serving.ServeFault.TheVariants.{Read, Write, Memory, TooLong}
 use Rattle.etalis_cli.proofs.FeedLaws.{count-after, replies-append, feeds_more, feeds_count, replies_both, second}
 
-module _ (rs : RuleSet) where
+module _ (rs : List PlainStatement) where
   pub progress_more : (left l1 l2 got : Option (List ℕ)) (now next : Kept) (n k : ℕ) (done piece : List ℕ)
       → Progress rs left l1 got now n done → Takes l1 l2 piece → length piece ≡ k → Feeds now next piece → Progress rs left l2 got next (n + k) (done ++ piece)
   progress_more left l1 l2 got now next n k done piece p t len f = record {

@@ -8,8 +8,11 @@ use Rattle.ev_term.specs.Happenings.{PlainEvent}
 use Rattle.ev_term.specs.EventOrder.{event_cmp, detection_cmp, exact_events, exact_detections}
 use Rattle.ev_term.specs.Presence.{Add, Fine, Unbuilt, judged, after_judged, present, present-add}
 use Rattle.ev_term.specs.declared.events.Detection.{Detection}
-use Rattle.pattern_meaning.specs.Patterns.{RuleSet, rules_of_pair}
-use Rattle.pattern_meaning.specs.PatternRows.{named_rows}
+use Rattle.rule_ast.specs.Trees.{PlainStatement}
+use Rattle.rule_ast.specs.Plain.{plain_rules}
+use Rattle.rule_check.specs.Sound.{rules_of}
+use Rattle.rule_check.specs.Names.{outputs}
+use Rattle.pattern_meaning.specs.RuleRows.{name_rows}
 use Rattle.pattern_meaning.specs.Standing.{standing, detection_of, change_texts, changes, ok_text, unbuilt_text, reply}
 use Rattle.canonical_forms.specs.EventLine.{event_said}
 use Rattle.etalis_cli.specs.Output.{State, judge_line, after_line, reply_to}
@@ -17,14 +20,14 @@ use Rattle.etalis_cli.specs.Rises.{rises, rising_of, of_rising}
 use Rattle.etalis_cli.specs.StandsFor.{StandsFor}
 use Rattle.etalis_cli.specs.declared.session.Session.{Session}
 
-rising_standing : (r : RuleSet) (events : List PlainEvent) → Rising detection_cmp (standing r events)
+rising_standing : (r : List PlainStatement) (events : List PlainEvent) → Rising detection_cmp (standing r events)
 unfolding standing
-rising_standing r events = Rising-canon exact_detections (flat_map (λ n. map (detection_of n) (named_rows r.rules events (length r.rules) n)) r.shown)
+rising_standing r events = Rising-canon exact_detections (flat_map (λ n. map (detection_of n) (name_rows (rules_of r) events n)) (outputs r))
 
-rising_found : (r : RuleSet) (events : List PlainEvent) (ds : List Detection) → ds ≡ standing r events → Rising detection_cmp ds
+rising_found : (r : List PlainStatement) (events : List PlainEvent) (ds : List Detection) → ds ≡ standing r events → Rising detection_cmp ds
 rising_found r events ds e = subst (λ l. Rising detection_cmp l) (sym e) (rising_standing r events)
 
-pub rises_found : (r : RuleSet) (events : List PlainEvent) (ds : List Detection) → ds ≡ standing r events → rises detection_cmp ds ≡ true
+pub rises_found : (r : List PlainStatement) (events : List PlainEvent) (ds : List Detection) → ds ≡ standing r events → rises detection_cmp ds ≡ true
 rises_found r events ds e = of_rising detection_cmp ds (rising_found r events ds e)
 
 and_not : (b : Bool) → (b && not b) ≡ false
@@ -49,13 +52,13 @@ pub rises_placed : (e : PlainEvent) (xs ys : List PlainEvent) → rises event_cm
 rises_placed e xs ys a p = of_rising event_cmp ys (rising_after_place exact_events e xs ys (rising_of event_cmp xs a) p)
 
 -- what stands in a session
-pub stands_now : (a : Session) (s : State) → StandsFor a s → a.standing.items ≡ standing (rules_of_pair a.rule) a.events.items
+pub stands_now : (a : Session) (s : State) → StandsFor a s → a.standing.items ≡ standing (plain_rules a.rules) a.events.items
 stands_now a s p = p.detections_stand ∙ (λ i. standing (p.same_rules i) (sym p.events_present i))
 
 -- ---- a line that says an event, and the events and detections after it
 
 module _ (a : Session) (s : State) (line : List ℕ) (e : PlainEvent) (events : List PlainEvent) (detections : List Detection) (said : event_said line ≡ Some e) (p : StandsFor a s)
-    (placed : events ≡ place event_cmp e a.events.items) (stands : detections ≡ standing (rules_of_pair a.rule) events) where
+    (placed : events ≡ place event_cmp e a.events.items) (stands : detections ≡ standing (plain_rules a.rules) events) where
   judged_fine : judge_line line ≡ Fine (Add e)
   judged_fine = ap judged said
 
@@ -65,9 +68,9 @@ module _ (a : Session) (s : State) (line : List ℕ) (e : PlainEvent) (events : 
   detections_added : detections ≡ standing s.rules (present (after_judged s.history (judge_line line)))
   detections_added = stands ∙ (λ i. standing (sym p.same_rules i) (events_added i))
 
-  pub stands_added : (b : Session) → b.rule ≡ a.rule → b.count ≡ a.count + 1 → b.events.items ≡ events → b.standing.items ≡ detections → StandsFor b (after_line s line)
+  pub stands_added : (b : Session) → b.rules ≡ a.rules → b.count ≡ a.count + 1 → b.events.items ≡ events → b.standing.items ≡ detections → StandsFor b (after_line s line)
   stands_added b same_rule count es ds = record {
-    same_rules = p.same_rules ∙ sym (ap rules_of_pair same_rule);
+    same_rules = p.same_rules ∙ sym (ap plain_rules same_rule);
     same_count = ap (λ n. n + 1) p.same_count ∙ sym count;
     events_present = es ∙ events_added;
     detections_stand = ds ∙ detections_added;
@@ -86,13 +89,13 @@ module _ (a : Session) (s : State) (line : List ℕ) (e : PlainEvent) (events : 
 
 -- ---- a line of no form that is built
 
-pub stands_unbuilt : (a b : Session) (s : State) (line : List ℕ) → event_said line ≡ None → StandsFor a s → b.rule ≡ a.rule → b.count ≡ a.count + 1
+pub stands_unbuilt : (a b : Session) (s : State) (line : List ℕ) → event_said line ≡ None → StandsFor a s → b.rules ≡ a.rules → b.count ≡ a.count + 1
     → b.events.items ≡ a.events.items → b.standing.items ≡ a.standing.items → StandsFor b (after_line s line)
 stands_unbuilt a b s line said p same_rule count events detections =
     let unbuilt : judge_line line ≡ Unbuilt = ap judged said in
     let history : s.history ≡ after_judged s.history (judge_line line) = ap (after_judged s.history) (sym unbuilt) in
     record {
-      same_rules = p.same_rules ∙ sym (ap rules_of_pair same_rule);
+      same_rules = p.same_rules ∙ sym (ap plain_rules same_rule);
       same_count = ap (λ n. n + 1) p.same_count ∙ sym count;
       events_present = events ∙ p.events_present ∙ ap present history;
       detections_stand = detections ∙ p.detections_stand ∙ ap (λ h. standing s.rules (present h)) history;

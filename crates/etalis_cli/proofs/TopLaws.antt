@@ -6,8 +6,7 @@ use Rattle.std.specs.Io.KnownBytes.{append_known}
 use Rattle.flow_ports.specs.Flow.{Gives}
 use Rattle.flow_ports.proofs.FlowLemmas.{append_known-nil}
 use Rattle.ev_term.specs.Lines.{ended}
-use Rattle.pattern_meaning.specs.Patterns.{RuleSet, rules_of_pair}
-use Rattle.pattern_meaning.specs.declared.rules.PairRule.{PairRule}
+use Rattle.rule_ast.specs.Trees.{PlainStatement}
 use Rattle.etalis_cli.specs.Output.{start, replies, out_text}
 use Rattle.etalis_cli.specs.Outcome.{Served}
 use Rattle.etalis_cli.specs.Rules.{Accepted, IsRefused, HasNone}
@@ -18,10 +17,10 @@ use Rattle.etalis_cli.specs.declared.serving.ServeFault.TheVariants as fault
 use Rattle.etalis_cli.specs.declared.status.Status.TheVariants as status
 use Rattle.etalis_cli.specs.declared.status.Cause.{Cause}
 use Rattle.etalis_cli.specs.declared.status.Cause.TheVariants.{Done, Usage, RulesRefused, RulesUnread, InputUnread, WriteFault, Memory, TooLong}
-use Rattle.etalis_cli.proofs.RuleLaws.{same_Some, one_rule}
+use Rattle.etalis_cli.proofs.RuleLaws.{same_Some, one_acceptance}
 use Rattle.etalis_cli.proofs.ServeLaws.{out_begins, replies_shorter}
 
-module _ (rs : RuleSet) where
+module _ (rs : List PlainStatement) where
   -- the replies to the lines of a first part are no longer than those to all
   shorter : (m : ℕ) (xs : List ℕ) → length (replies (start rs) (ended (take m xs))) ≤ length (replies (start rs) (ended xs))
   shorter m xs = subst (λ x. length (replies (start rs) (ended (take m xs))) ≤ length (replies (start rs) (ended x))) (take-append-drop m xs) (replies_shorter rs (take m xs) (drop m xs))
@@ -71,26 +70,26 @@ module _ (rs : RuleSet) where
 
 -- ---- the rules of the file
 
-on_rules : (file : Option (List ℕ)) (rule : PairRule) (P : RuleSet → Type 0) → IfSome file (λ f. Accepted f rule) → P (rules_of_pair rule) → OnRules file P
-on_rules None rule P accepted p = tt
-on_rules (Some f) rule P accepted p = λ other a. subst (λ r. P (rules_of_pair r)) (one_rule f rule other accepted a) p
+on_rules : (file : Option (List ℕ)) (rs : List PlainStatement) (P : List PlainStatement → Type 0) → IfSome file (λ f. Accepted f rs) → P rs → OnRules file P
+on_rules None rs P accepted p = tt
+on_rules (Some f) rs P accepted p = λ other a. subst P (one_acceptance f rs other accepted a) p
 
-any_rules : (file : Option (List ℕ)) (P : RuleSet → Type 0) → ((rs : RuleSet) → P rs) → OnRules file P
+any_rules : (file : Option (List ℕ)) (P : List PlainStatement → Type 0) → ((rs : List PlainStatement) → P rs) → OnRules file P
 any_rules None P p = tt
-any_rules (Some f) P p = λ rule accepted. p (rules_of_pair rule)
+any_rules (Some f) P p = λ rs accepted. p rs
 
--- what holds of the rule that was read
-pub on_read : (asked : Option (List ℕ)) (name : List ℕ) (holds : List ℕ → Option (List ℕ)) (rule : PairRule) (P : RuleSet → Type 0) → asked ≡ Some name
-    → IfSome (holds name) (λ f. Accepted f rule) → P (rules_of_pair rule) → OnRules (file_of asked holds) P
-on_read asked name holds rule P e accepted p = subst (λ o. OnRules (file_of o holds) P) (sym e) (on_rules (holds name) rule P accepted p)
+-- what holds of the rules that were read
+pub on_read : (asked : Option (List ℕ)) (name : List ℕ) (holds : List ℕ → Option (List ℕ)) (rs : List PlainStatement) (P : List PlainStatement → Type 0) → asked ≡ Some name
+    → IfSome (holds name) (λ f. Accepted f rs) → P rs → OnRules (file_of asked holds) P
+on_read asked name holds rs P e accepted p = subst (λ o. OnRules (file_of o holds) P) (sym e) (on_rules (holds name) rs P accepted p)
 
-pub long_on_read : (asked : Option (List ℕ)) (name : List ℕ) (holds : List ℕ → Option (List ℕ)) (rule : PairRule) (Q : Type 0) (P : RuleSet → Type 0) → asked ≡ Some name
-    → IfSome (holds name) (λ f. Accepted f rule) → Q ⊎ P (rules_of_pair rule) → Q ⊎ OnRules (file_of asked holds) P
-long_on_read asked name holds rule Q P e accepted (inl q) = inl q
-long_on_read asked name holds rule Q P e accepted (inr p) = inr (on_read asked name holds rule P e accepted p)
+pub long_on_read : (asked : Option (List ℕ)) (name : List ℕ) (holds : List ℕ → Option (List ℕ)) (rs : List PlainStatement) (Q : Type 0) (P : List PlainStatement → Type 0) → asked ≡ Some name
+    → IfSome (holds name) (λ f. Accepted f rs) → Q ⊎ P rs → Q ⊎ OnRules (file_of asked holds) P
+long_on_read asked name holds rs Q P e accepted (inl q) = inl q
+long_on_read asked name holds rs Q P e accepted (inr p) = inr (on_read asked name holds rs P e accepted p)
 
 -- nothing was taken, and nothing went out
-none_sent : (rs : RuleSet) (left got : Option (List ℕ)) → PartFor rs left left got got
+none_sent : (rs : List PlainStatement) (left got : Option (List ℕ)) → PartFor rs left left got got
 none_sent rs None got = tt
 none_sent rs (Some xs) got =
     let none : length xs - length xs - 8192 ≡ 0 = omega arith in

@@ -2,18 +2,18 @@
 use Rattle.std.specs.Prelude.{ℕ, ◌+◌, List, [], ◌∷◌, ◌++◌, length}
 use Rattle.ev_term.specs.Lines.{lines_of}
 use Rattle.ev_term.specs.Presence.{Input, Judgement, judged, after_judged}
-use Rattle.pattern_meaning.specs.Patterns.{RuleSet}
+use Rattle.rule_ast.specs.Trees.{PlainStatement}
 use Rattle.pattern_meaning.specs.Standing.{reply, end_text}
 use Rattle.canonical_forms.specs.EventLine.{event_said}
 
 -- the rules, the inputs that were taken, and how many lines came
 pub record State : Type 0 where
-  pub rules : RuleSet
+  pub rules : List PlainStatement
   pub history : List Input
   pub count : ℕ
 
 -- before the first line
-abbrev pub start : RuleSet → State
+abbrev pub start : List PlainStatement → State
 start rules = record { rules = rules; history = []; count = 0 }
 
 abbrev pub judge_line : List ℕ → Judgement
@@ -34,5 +34,5 @@ replies s [] = []
 replies s (line ∷ lines) = reply_to s line ++ replies (after_line s line) lines
 
 -- the replies to the lines of an input, and the end with their number
-abbrev pub out_text : RuleSet → List ℕ → List ℕ
+abbrev pub out_text : List PlainStatement → List ℕ → List ℕ
 out_text rules bytes = replies (start rules) (lines_of bytes) ++ end_text (length (lines_of bytes))

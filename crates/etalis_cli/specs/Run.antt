@@ -4,8 +4,7 @@ use Rattle.std.specs.Str.{bytes_eq}
 use Rattle.std.specs.declared.alloc.Global.{Global}
 use Rattle.flow_ports.specs.Flow.{Gives, GivesPart}
 use Rattle.ev_term.specs.Lines.{ended}
-use Rattle.pattern_meaning.specs.Patterns.{RuleSet, rules_of_pair}
-use Rattle.pattern_meaning.specs.declared.rules.PairRule.{PairRule}
+use Rattle.rule_ast.specs.Trees.{PlainStatement}
 use Rattle.etalis_cli.specs.Output.{start, replies, out_text}
 use Rattle.etalis_cli.specs.Rules.{Accepted, IsRefused, refusal_note}
 use Rattle.etalis_cli.specs.declared.refusals.Refusal.{Refusal}
@@ -40,8 +39,8 @@ MayAsk None serves = ⊤
 MayAsk (Some name) serves = serves name ≡ true
 
 -- P holds of the rules that the file is accepted as, where it is told and accepted
-abbrev pub OnRules : Option (List ℕ) → (RuleSet → Type 0) → Type 0
-OnRules file P = IfSome file (λ f. (rule : PairRule) → Accepted f rule → P (rules_of_pair rule))
+abbrev pub OnRules : Option (List ℕ) → (List PlainStatement → Type 0) → Type 0
+OnRules file P = IfSome file (λ f. (rules : List PlainStatement) → Accepted f rules → P rules)
 
 -- P holds of the bytes that were taken, where they are told
 abbrev pub OnTaken : Option (List ℕ) → Option (List ℕ) → (List ℕ → Type 0) → Type 0
@@ -60,7 +59,7 @@ WasServed status.ReadFault = ⊥
 WasServed status.Memory = ⊥
 
 -- A first part of the whole output went out, with the replies to all lines whose line feed is among the bytes taken but the last 8192.
-abbrev pub PartFor : RuleSet → Option (List ℕ) → Option (List ℕ) → Option (List ℕ) → Option (List ℕ) → Type 0
+abbrev pub PartFor : List PlainStatement → Option (List ℕ) → Option (List ℕ) → Option (List ℕ) → Option (List ℕ) → Type 0
 PartFor rs None left' got got' = ⊤
 PartFor rs (Some xs) None got got' = ⊤
 PartFor rs (Some xs) (Some ys) got got' = (n : ℕ) × Gives got got' (take n (out_text rs xs))

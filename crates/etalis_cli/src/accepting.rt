@@ -1,115 +1,24 @@
 // Rule files to rules.
 ghost use Rattle.std.specs.Prelude.{◌≡◌, ℕ, List};
-ghost use Rattle.std.specs.List.{list_all, flat_map};
-ghost use Rattle.ev_term.specs.SlotSets.{slot_in};
-ghost use Rattle.rule_ast.specs.Trees.{Clause};
-ghost use Rattle.rule_ast.specs.Vars.{slots_of};
-ghost use Rattle.rule_ast.specs.Plain.{plain_pattern, plain_rule, plain_rules};
-ghost use Rattle.etalis_cli.specs.Rules.{atom_of, atoms_of, is_same_name, pair_said, pair_of, Accepted, Judged};
+ghost use Rattle.rule_ast.specs.Trees.{PlainStatement};
+ghost use Rattle.etalis_cli.specs.Rules.{Accepted, Judged};
 
 use crate::refusals::Refusal;
-use ev_term::{Op, Pat, PatAtom, Slots};
-use pattern_meaning::PairRule;
-use rule_ast::{Pattern, Rule, RuleSet, Statement, vars_of};
+use rule_check::{CheckFault, Checked, check};
 use rule_parser::{ParseFault, parse};
 use std::alloc::Global;
 
 /// The most bytes of a rule file.
 pub const MOST_BYTES: usize = 1_048_576;
 
-/// Why no rule was made of a file.
+/// Why no rules were made of a file.
 pub enum AcceptFault {
     Refused(Refusal),
     Memory,
 }
 
-// The atom that a pattern is.
-fn atom_of(pattern: Pattern) -> Option<PatAtom>
-    ensures { result ≡ atom_of (plain_pattern pattern) }
-{
-    match pattern {
-        Pattern::Atom(atom) => Some(atom),
-        _ => None,
-    }
-}
-
-// The two atoms that a pattern joins by SEQ.
-fn atoms_of(pattern: Pattern) -> Option<(PatAtom, PatAtom)>
-    ensures { result ≡ atoms_of (plain_pattern pattern) }
-{
-    let Pattern::Both(Op::Seq, left, right) = pattern else {
-        return None;
-    };
-    let left = atom_of(Box::into_inner(left))?;
-    let right = atom_of(Box::into_inner(right))?;
-    Some((left, right))
-}
-
-// Whether each variable of an argument is one of these.
-#[cycle(bound)]
-#[tactic(auto, using(crate::proofs::RuleLaws::bound_steps))]
-fn is_bound(pat: &Pat, vars: &Slots) -> bool
-    ensures { result ≡ list_all (slot_in vars.now) (slots_of pat.now) }
-{
-    match pat {
-        Pat::Var(slot) => vars.has(*slot),
-        Pat::Comp(_, pats) => all_bound(pats.as_slice(), vars),
-        Pat::Any | Pat::Num(_) | Pat::Sym(_) | Pat::Text(_) => true,
-    }
-}
-
-#[cycle(bound)]
-#[tactic(auto, using(crate::proofs::RuleLaws::bound_steps))]
-fn all_bound(pats: &[Pat], vars: &Slots) -> bool
-    ensures { result ≡ list_all (slot_in vars.now) (flat_map slots_of pats.now) }
-{
-    for pat in pats {
-        if !is_bound(pat, vars) {
-            return false;
-        }
-    }
-    true
-}
-
-fn is_same_name(a: &PatAtom, b: &PatAtom) -> bool
-    ensures { result ≡ is_same_name a.now b.now }
-{
-    a.name.as_str().as_bytes() == b.name.as_str().as_bytes()
-        && a.args.as_slice().len() == b.args.as_slice().len()
-}
-
-// The rule of two atoms that a rule is.
-fn pair_of_rule(rule: Rule) -> Option<PairRule>
-    ensures { result ≡ pair_said (Clause (plain_rule rule)) }
-{
-    let Rule { head, body, .. } = rule;
-    let body_vars = vars_of(&body);
-    let (left, right) = atoms_of(body)?;
-    if !all_bound(head.args.as_slice(), &body_vars) {
-        return None;
-    }
-    if is_same_name(&head, &left) || is_same_name(&head, &right) {
-        return None;
-    }
-    Some(PairRule { head, left, right })
-}
-
-// The rule of two atoms that the rules are.
-fn pair_of(rules: RuleSet) -> Option<PairRule>
-    ensures { result ≡ pair_of (plain_rules rules) }
-{
-    let mut statements = rules.statements;
-    if statements.len() > 1 {
-        return None;
-    }
-    match statements.pop() {
-        Some(Statement::Rule(rule)) => pair_of_rule(rule),
-        _ => None,
-    }
-}
-
-/// The rule that a file is accepted as.
-pub fn accept(alloc: Global, file: &[u8]) -> Result<PairRule, AcceptFault>
+/// The rules that a file is accepted as.
+pub fn accept(alloc: Global, file: &[u8]) -> Result<Checked, AcceptFault>
     ensures { Judged file.now result }
 {
     if file.len() > MOST_BYTES {
@@ -127,13 +36,16 @@ pub fn accept(alloc: Global, file: &[u8]) -> Result<PairRule, AcceptFault>
         }
         Err(ParseFault::Memory) => return Err(AcceptFault::Memory),
     };
-    match pair_of(rules) {
-        Some(rule) => Ok(rule),
-        None => Err(AcceptFault::Refused(Refusal::Unbuilt)),
+    match check(alloc, rules) {
+        Ok(checked) => Ok(checked),
+        Err(fault) => match fault {
+            CheckFault::Memory => Err(AcceptFault::Memory),
+            fault => Err(AcceptFault::Refused(Refusal::Unsound(fault))),
+        },
     }
 }
 
-/// No file is accepted as two rules.
-pub fn files_have_one_rule()
-    ensures { (file : List ℕ) (rule other : PairRule) → Accepted file rule → Accepted file other → rule ≡ other }
+/// No file is accepted as two lists of rules.
+pub fn files_have_one_meaning()
+    ensures { (file : List ℕ) (rules others : List PlainStatement) → Accepted file rules → Accepted file others → rules ≡ others }
 {}

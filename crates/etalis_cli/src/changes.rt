@@ -4,13 +4,14 @@ ghost use Rattle.ordered_lists.specs.Canon.{has, place};
 ghost use Rattle.ordered_lists.specs.Members.{without};
 ghost use Rattle.ev_term.specs.EventOrder.{event_cmp, detection_cmp};
 ghost use Rattle.etalis_cli.specs.Rises.{rises};
-ghost use Rattle.pattern_meaning.specs.Patterns.{rules_of_pair};
+ghost use Rattle.rule_ast.specs.Plain.{plain_rules};
 ghost use Rattle.pattern_meaning.specs.Standing.{standing, change_text, change_texts, changes};
 
 use crate::replies::change_text;
 use ev_term::{Detection, Event};
 use ordered_lists::{insert_unique, is_member};
-use pattern_meaning::{PairRule, scratch_pair};
+use pattern_meaning::scratch;
+use rule_check::Checked;
 use std::alloc::{AllocError, Global};
 
 // The line of a detection, where it isn't among the others.
@@ -52,7 +53,7 @@ fn push_all_missing(
 /// present already changes nothing.
 pub fn take_event(
     alloc: Global,
-    rule: &PairRule,
+    rules: &Checked,
     events: &mut Vec<Event>,
     detections: &mut Vec<Detection>,
     event: Event,
@@ -61,8 +62,8 @@ pub fn take_event(
     requires events_rise { rises event_cmp events.old.items ≡ true }
     requires detections_rise { rises detection_cmp detections.old.items ≡ true }
     ensures placed { OnOk result (events.new.items ≡ place event_cmp event events.old.items) }
-    ensures standing { detections.old.items ≡ standing (rules_of_pair rule.now) events.old.items
-        → OnOk result (detections.new.items ≡ standing (rules_of_pair rule.now) events.new.items) }
+    ensures standing { detections.old.items ≡ standing (plain_rules rules.now) events.old.items
+        → OnOk result (detections.new.items ≡ standing (plain_rules rules.now) events.new.items) }
     ensures text { OnOk result (out.new.items ≡ out.old.items
         ++ changes detections.old.items detections.new.items) }
     ensures events_still_rise { rises event_cmp events.new.items ≡ true }
@@ -71,7 +72,7 @@ pub fn take_event(
     if !insert_unique(events, event)? {
         return Ok(());
     }
-    let found = scratch_pair(alloc, rule, events)?;
+    let found = scratch(alloc, rules, events)?;
     push_all_missing(b'-', detections, &found, out)?;
     push_all_missing(b'+', &found, detections, out)?;
     *detections = found;

@@ -12,7 +12,7 @@ mod session;
 mod status;
 mod top;
 
-pub use accepting::files_have_one_rule;
+pub use accepting::files_have_one_meaning;
 pub use serving::{ServeFault, serve};
 pub use session::Session;
 pub use status::Status;

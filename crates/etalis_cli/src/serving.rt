@@ -1,7 +1,7 @@
 // The lines of a source, to their replies.
 ghost use Rattle.std.specs.Prelude.{◌≡◌, ◌^◌, ◌<◌, ◌≤◌, ℕ, List, OnOk, OnErr, IsErrOf};
 ghost use Rattle.flow_ports.specs.Flow.{Rose, Gives, GivesPart};
-ghost use Rattle.pattern_meaning.specs.Patterns.{rules_of_pair};
+ghost use Rattle.rule_ast.specs.Plain.{plain_rules};
 ghost use Rattle.etalis_cli.specs.Output.{State, start};
 ghost use Rattle.etalis_cli.specs.StandsFor.{StandsFor};
 ghost use Rattle.etalis_cli.specs.Outcome.{Served, tail};
@@ -79,9 +79,9 @@ pub fn serve<I: Source, O: Sink>(
     input: &mut I,
     out: &mut O,
 ) -> Result<(), ServeFault>
-    requires { StandsFor session.old (start (rules_of_pair session.old.rule)) }
+    requires { StandsFor session.old (start (plain_rules session.old.rules)) }
     ensures served { (done : List ℕ)
-        × Served (rules_of_pair session.old.rule) result (I.left input.old) (I.left input.new)
+        × Served (plain_rules session.old.rules) result (I.left input.old) (I.left input.new)
         (O.got out.old) (O.got out.new) (Rose (O.faults out.old) (O.faults out.new)) done }
     ensures read { IsErrOf result ServeFault.Read → Rose (I.faults input.old) (I.faults input.new) }
     ensures write { IsErrOf result ServeFault.Write → Rose (O.faults out.old) (O.faults out.new) }

@@ -7,15 +7,16 @@ use crate::changes::take_event;
 use crate::replies::{ok_text, unbuilt_text};
 use canonical_forms::read_event_line;
 use ev_term::{Detection, Event};
-use pattern_meaning::{PairRule, scratch_pair};
+use pattern_meaning::scratch;
+use rule_check::Checked;
 use std::alloc::{AllocError, Global};
 
-/// A rule, how many lines came, the events that are present, in order and each once, what
+/// Rules, how many lines came, the events that are present, in order and each once, what
 /// stands over them, and room for work.
 #[derive(Drop)]
 pub struct Session {
     alloc: Global,
-    rule: PairRule,
+    rules: Checked,
     count: u64,
     events: Vec<Event>,
     standing: Vec<Detection>,
@@ -25,19 +26,19 @@ pub struct Session {
 }
 
 impl Session {
-    ghost use Rattle.pattern_meaning.specs.Patterns.{rules_of_pair};
+    ghost use Rattle.rule_ast.specs.Plain.{plain_rules};
     ghost use Rattle.etalis_cli.specs.Output.{State, start, after_line, reply_to};
     ghost use Rattle.etalis_cli.specs.StandsFor.{StandsFor};
 
     /// Before the first line.
-    pub fn new(alloc: Global, rule: PairRule) -> Result<Session, AllocError>
-        ensures { IfOk result (λ n. StandsFor n (start (rules_of_pair rule))) }
+    pub fn new(alloc: Global, rules: Checked) -> Result<Session, AllocError>
+        ensures { IfOk result (λ n. StandsFor n (start (plain_rules rules))) }
     {
         let events = Vec::new(alloc);
-        let standing = scratch_pair(alloc, &rule, &events)?;
+        let standing = scratch(alloc, &rules, &events)?;
         Ok(Session {
             alloc,
-            rule,
+            rules,
             count: 0,
             events,
             standing,
@@ -73,7 +74,7 @@ impl Session {
         };
         take_event(
             self.alloc,
-            &self.rule,
+            &self.rules,
             &mut self.events,
             &mut self.standing,
             event,

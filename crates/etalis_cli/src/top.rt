@@ -2,7 +2,7 @@
 ghost use Rattle.std.specs.Prelude.{◌≡◌, ◌^◌, ◌≤◌, ◌↔◌, ◌⊎◌, ℕ, List, Some, None, true, IfSome, IfOk, OnOk, IfErr, IsErrOf, MatchOption, length};
 ghost use Rattle.flow_ports.specs.Flow.{Rose, Gives, GivesPart, IsAtEnd};
 ghost use Rattle.ev_term.specs.Lines.{ended};
-ghost use Rattle.pattern_meaning.specs.Patterns.{rules_of_pair};
+ghost use Rattle.rule_ast.specs.Plain.{plain_rules};
 ghost use Rattle.etalis_cli.specs.Output.{start, replies, out_text};
 ghost use Rattle.etalis_cli.specs.Outcome.{Served};
 ghost use Rattle.etalis_cli.specs.Rules.{Accepted, IsAccepted, HasNone, IsRefused};
@@ -15,7 +15,7 @@ use crate::serving::{ServeFault, serve};
 use crate::session::Session;
 use crate::status::{Cause, Status};
 use flow_ports::{Shelf, Sink, Source, WholeFault, read_whole};
-use pattern_meaning::PairRule;
+use rule_check::Checked;
 use std::alloc::Global;
 
 // The name of the rule file, where the words are in form.
@@ -44,9 +44,9 @@ fn is_name(name: &[u8]) -> bool
 }
 
 // Reads the rule file. An `Err` is the cause to end with.
-fn read_rules<S: Shelf>(alloc: Global, shelf: &mut S, name: &str) -> Result<PairRule, Cause>
+fn read_rules<S: Shelf>(alloc: Global, shelf: &mut S, name: &str) -> Result<Checked, Cause>
     requires { S.serves shelf.old name.now ≡ true }
-    ensures accepted { IfOk result (λ rule. IfSome (S.holds shelf.old name.now) (λ file. Accepted file rule)) }
+    ensures accepted { IfOk result (λ rules. IfSome (S.holds shelf.old name.now) (λ file. Accepted file (plain_rules rules))) }
     ensures count { OnOk result (S.faults shelf.new ≡ S.faults shelf.old) }
     ensures cause { IfErr result (λ cause.
         ((cause ≡ Cause.RulesUnread) × Rose (S.faults shelf.old) (S.faults shelf.new))
@@ -61,7 +61,7 @@ fn read_rules<S: Shelf>(alloc: Global, shelf: &mut S, name: &str) -> Result<Pair
         Err(WholeFault::Memory) => return Err(Cause::Memory),
     };
     match accept(alloc, &file) {
-        Ok(rule) => Ok(rule),
+        Ok(rules) => Ok(rules),
         Err(AcceptFault::Refused(refusal)) => Err(Cause::RulesRefused(refusal)),
         Err(AcceptFault::Memory) => Err(Cause::Memory),
     }
@@ -80,29 +80,29 @@ fn cause_of(outcome: Result<(), ServeFault>) -> Cause
     }
 }
 
-// Serves the lines by a rule, from a session of its own.
-fn serve_rule<I: Source, O: Sink>(
+// Serves the lines by rules, from a session of its own.
+fn serve_rules<I: Source, O: Sink>(
     alloc: Global,
-    rule: PairRule,
+    rules: Checked,
     input: &mut I,
     out: &mut O,
 ) -> Result<(), ServeFault>
-    ensures served { (done : List ℕ) × Served (rules_of_pair rule) result (I.left input.old) (I.left input.new)
+    ensures served { (done : List ℕ) × Served (plain_rules rules) result (I.left input.old) (I.left input.new)
         (O.got out.old) (O.got out.new) (Rose (O.faults out.old) (O.faults out.new)) done }
     ensures read { IsErrOf result ServeFault.Read → Rose (I.faults input.old) (I.faults input.new) }
     ensures write { IsErrOf result ServeFault.Write → Rose (O.faults out.old) (O.faults out.new) }
 {
-    let mut session = match Session::new(alloc, rule) {
+    let mut session = match Session::new(alloc, rules) {
         Ok(session) => session,
         Err(_) => return Err(ServeFault::Memory),
     };
     serve(alloc, &mut session, input, out)
 }
 
-// What a run does once it has its rule.
-fn run_rule<I: Source, O: Sink>(alloc: Global, rule: PairRule, input: &mut I, out: &mut O) -> Cause
+// What a run does once it has its rules.
+fn run_rules<I: Source, O: Sink>(alloc: Global, rules: Checked, input: &mut I, out: &mut O) -> Cause
     ensures done { result ≡ Cause.Done → IfSome (I.left input.old) (λ bytes.
-        Gives (O.got out.old) (O.got out.new) (out_text (rules_of_pair rule) bytes)) }
+        Gives (O.got out.old) (O.got out.new) (out_text (plain_rules rules) bytes)) }
     ensures read_to_end { result ≡ Cause.Done → IsAtEnd (I.left input.new) }
     ensures write { result ≡ Cause.WriteFault → Rose (O.faults out.old) (O.faults out.new) }
     ensures read { result ≡ Cause.InputUnread → Rose (I.faults input.old) (I.faults input.new) }
@@ -110,15 +110,15 @@ fn run_rule<I: Source, O: Sink>(alloc: Global, rule: PairRule, input: &mut I, ou
         → OnTaken (I.left input.old) (I.left input.new) (λ taken. 2 ^ 60 ≤ length taken) }
     ensures no_longer { OnTaken (I.left input.old) (I.left input.new) (λ taken. 2 ^ 60 ≤ length taken
         → (result ≡ Cause.TooLong) ⊎ (result ≡ Cause.Memory)) }
-    ensures part { PartFor (rules_of_pair rule) (I.left input.old) (I.left input.new) (O.got out.old) (O.got out.new) }
+    ensures part { PartFor (plain_rules rules) (I.left input.old) (I.left input.new) (O.got out.old) (O.got out.new) }
     ensures replied { result ≡ Cause.InputUnread → OnTaken (I.left input.old) (I.left input.new) (λ taken.
-        Gives (O.got out.old) (O.got out.new) (replies (start (rules_of_pair rule)) (ended taken))) }
+        Gives (O.got out.old) (O.got out.new) (replies (start (plain_rules rules)) (ended taken))) }
     ensures long_replied { result ≡ Cause.TooLong → Rose (O.faults out.old) (O.faults out.new)
         ⊎ OnTaken (I.left input.old) (I.left input.new) (λ taken.
-        Gives (O.got out.old) (O.got out.new) (replies (start (rules_of_pair rule)) (ended taken))) }
+        Gives (O.got out.old) (O.got out.new) (replies (start (plain_rules rules)) (ended taken))) }
     ensures causes { IsServeCause result }
 {
-    cause_of(serve_rule(alloc, rule, input, out))
+    cause_of(serve_rules(alloc, rules, input, out))
 }
 
 // All of a run but its note.
@@ -174,11 +174,11 @@ fn work<S: Shelf, I: Source, O: Sink>(
         Some(name) => name,
         None => return Cause::Usage,
     };
-    let rule = match read_rules(alloc, shelf, name) {
-        Ok(rule) => rule,
+    let rules = match read_rules(alloc, shelf, name) {
+        Ok(rules) => rules,
         Err(cause) => return cause,
     };
-    run_rule(alloc, rule, input, out)
+    run_rules(alloc, rules, input, out)
 }
 
 /// Reads the rule file and the lines, and writes the replies. A note says why the run ended, where
@@ -234,13 +234,13 @@ pub fn run<S: Shelf, I: Source, O: Sink, N: Sink>(
         ⊎ (Rose (N.faults notes.old) (N.faults notes.new) × GivesPart (N.got notes.old) (N.got notes.new) text)) }
 {
     let cause = work(alloc, words, shelf, input, out);
-    tell(notes, cause);
-    status_of(cause)
+    tell(notes, &cause);
+    status_of(&cause)
 }
 
 // The status that a cause is told by.
-fn status_of(cause: Cause) -> Status
-    ensures { result ≡ status_of cause }
+fn status_of(cause: &Cause) -> Status
+    ensures { result ≡ status_of cause.now }
 {
     match cause {
         Cause::Done => Status::Done,

@@ -1,2 +1,1 @@
-pub mod ScratchLaws
 pub mod RoundLaws

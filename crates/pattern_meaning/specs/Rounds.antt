@@ -1,16 +1,15 @@
 -- What the plain evaluator of rules finds, round by round, as one list of detections.
-use Rattle.std.specs.Prelude.{ℕ, zero, suc, Some, List, [], ◌∷◌, ◌++◌, map}
+use Rattle.std.specs.Prelude.{ℕ, zero, suc, Some, List, [], ◌++◌, map}
 use Rattle.std.specs.List.{filter, flat_map}
 use Rattle.ordered_lists.specs.Lists.{some_of}
 use Rattle.ev_term.specs.Happenings.{PlainEvent}
 use Rattle.ev_term.specs.declared.atoms.PatAtom.{PatAtom}
 use Rattle.ev_term.specs.declared.atoms.NameArity.{NameArity}
 use Rattle.ev_term.specs.declared.events.Detection.{Detection}
-use Rattle.ev_bind.specs.Matching.{match_of}
+use Rattle.ev_bind.specs.Matching.{match_of, instance}
 use Rattle.ev_bind.specs.declared.rows.Row.{Row}
 use Rattle.rule_ast.specs.Trees.{PlainRule, PlainStatement, Clause, Show}
 use Rattle.pattern_meaning.specs.PatternRows.{rows_of, spanned, found, instant, is_of}
-use Rattle.pattern_meaning.specs.Scratch.{head_detection}
 use Rattle.pattern_meaning.specs.RuleRows.{rows}
 
 -- those of a name
@@ -27,6 +26,10 @@ named_in ds n = rows_of (map found_row (of_name n ds))
 -- the row of an atom of a rule, where a detection matches it
 abbrev pub matched_rows : PatAtom → Detection → List Row
 matched_rows p d = some_of (spanned (Some d.span) (match_of p d.atom))
+
+-- the instance of a head under a row
+abbrev pub head_detection : PatAtom → Row → Detection
+head_detection head r = record { atom = record { name = head.name; args = map (λ p. instance p r.binding) head.args }; span = r.span }
 
 abbrev pub as_detection : PlainEvent → Detection
 as_detection e = record { atom = e.atom; span = instant e.time }

@@ -1,27 +1,20 @@
 -- The rows of every pattern, the rows of a name over the rules of a file, and the detections that stand.
-use Rattle.std.specs.Prelude.{ℕ, zero, suc, ◌-◌, Bool, ◌&&◌, ◌==◌, nat_le, Option, List, [], ◌∷◌, ◌++◌, map, length}
+use Rattle.std.specs.Prelude.{ℕ, zero, suc, ◌-◌, Bool, ◌&&◌, ◌==◌, nat_le, Option, List, ◌++◌, map, length}
 use Rattle.std.specs.List.{filter, flat_map}
 use Rattle.std.specs.Str.{bytes_eq}
 use Rattle.ordered_lists.specs.Lists.{joins}
-use Rattle.ordered_lists.specs.Canon.{canon}
 use Rattle.ordered_lists.specs.Members.{without}
 use Rattle.ev_term.specs.Happenings.{PlainEvent}
-use Rattle.ev_term.specs.EventOrder.{detection_cmp}
 use Rattle.ev_term.specs.declared.operators.Op.{Op}
 use Rattle.ev_term.specs.declared.operators.Op.TheVariants.{Seq}
 use Rattle.ev_term.specs.declared.atoms.NameArity.{NameArity}
-use Rattle.ev_term.specs.declared.events.Detection.{Detection}
 use Rattle.interval_ops.specs.Operators.{pair}
 use Rattle.ev_bind.specs.Bindings.{join}
 use Rattle.ev_bind.specs.Rows.{row_cmp}
 use Rattle.ev_bind.specs.declared.rows.Row.{Row}
-use Rattle.rule_ast.specs.Trees.{PlainPattern, Atom, Both, Either, Where, Exact, Within, Not, PlainRule, PlainStatement}
+use Rattle.rule_ast.specs.Trees.{PlainPattern, Atom, Both, Either, Where, Exact, Within, Not, PlainRule}
 use Rattle.term_eval.specs.Values.{holds}
-use Rattle.rule_check.specs.Sound.{rules_of}
-use Rattle.rule_check.specs.Names.{outputs}
-use Rattle.pattern_meaning.specs.Patterns.{name_of}
-use Rattle.pattern_meaning.specs.PatternRows.{rows_of, spanned, matched, events_of, head_row}
-use Rattle.pattern_meaning.specs.Standing.{detection_of}
+use Rattle.pattern_meaning.specs.PatternRows.{rows_of, spanned, matched, name_of, events_of, head_row}
 
 -- ---- the forms of patterns, over the rows of their parts
 
@@ -73,7 +66,3 @@ named_rows rules events (suc k) n =
 -- by all rules: no name of rules without a cycle is deeper than their number
 abbrev pub name_rows : List PlainRule → List PlainEvent → NameArity → List Row
 name_rows rules events n = named_rows rules events (length rules) n
-
--- the rows of the names that are given out, as detections in order, each once
-unfoldable pub standing : List PlainStatement → List PlainEvent → List Detection
-standing statements events = canon detection_cmp (flat_map (λ n. map (detection_of n) (name_rows (rules_of statements) events n)) (outputs statements))

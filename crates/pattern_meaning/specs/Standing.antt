@@ -1,5 +1,5 @@
 -- The detections that stand over a set of events, and the replies to lines.
-use Rattle.std.specs.Prelude.{ℕ, List, [], ◌∷◌, ◌++◌, map, length, codes, decimal}
+use Rattle.std.specs.Prelude.{ℕ, List, [], ◌∷◌, ◌++◌, map, codes, decimal}
 use Rattle.std.specs.List.{flat_map}
 use Rattle.ordered_lists.specs.Canon.{canon}
 use Rattle.ordered_lists.specs.Members.{without}
@@ -10,15 +10,18 @@ use Rattle.ev_term.specs.Presence.{Input, Judgement, Fine, Unbuilt, present}
 use Rattle.ev_term.specs.declared.atoms.NameArity.{NameArity}
 use Rattle.ev_term.specs.declared.events.Detection.{Detection}
 use Rattle.ev_bind.specs.declared.rows.Row.{Row}
-use Rattle.pattern_meaning.specs.Patterns.{RuleSet}
-use Rattle.pattern_meaning.specs.PatternRows.{args_of, named_rows}
+use Rattle.rule_ast.specs.Trees.{PlainStatement}
+use Rattle.rule_check.specs.Sound.{rules_of}
+use Rattle.rule_check.specs.Names.{outputs}
+use Rattle.pattern_meaning.specs.PatternRows.{args_of}
+use Rattle.pattern_meaning.specs.RuleRows.{name_rows}
 
 abbrev pub detection_of : NameArity → Row → Detection
 detection_of n r = record { atom = record { name = n.name; args = args_of r }; span = r.span }
 
--- the rows of the shown names over these events, as detections in order, each once
-unfoldable pub standing : RuleSet → List PlainEvent → List Detection
-standing r events = canon detection_cmp (flat_map (λ n. map (detection_of n) (named_rows r.rules events (length r.rules) n)) r.shown)
+-- the rows of the names that are given out, as detections in order, each once
+unfoldable pub standing : List PlainStatement → List PlainEvent → List Detection
+standing statements events = canon detection_cmp (flat_map (λ n. map (detection_of n) (name_rows (rules_of statements) events n)) (outputs statements))
 
 -- ---- replies
 
@@ -43,6 +46,6 @@ abbrev pub end_text : ℕ → List ℕ
 end_text n = codes "end " ++ decimal n ++ codes "\n"
 
 -- the reply to line n, which is judged so after this history
-abbrev pub reply : RuleSet → List Input → ℕ → Judgement → List ℕ
+abbrev pub reply : List PlainStatement → List Input → ℕ → Judgement → List ℕ
 reply r history n (Fine input) = changes (standing r (present history)) (standing r (present (history ++ input ∷ []))) ++ ok_text n
 reply r history n Unbuilt = unbuilt_text n

@@ -8,11 +8,10 @@ ghost use Rattle.rule_check.specs.Cycles.{rank_of};
 ghost use Rattle.rule_check.specs.Graphs.{greatest};
 ghost use Rattle.rule_check.specs.Names.{outputs};
 ghost use Rattle.rule_check.specs.Sound.{rules_of};
-ghost use Rattle.pattern_meaning.specs.Patterns.{name_of};
-ghost use Rattle.pattern_meaning.specs.PatternRows.{is_of, matched, rows_of};
-ghost use Rattle.pattern_meaning.specs.RuleRows.{rows, standing};
-ghost use Rattle.pattern_meaning.specs.Rounds.{of_name, named_in, matched_rows, as_detection, statement_detections, next_round, rounds};
-ghost use Rattle.pattern_meaning.specs.Scratch.{head_detection};
+ghost use Rattle.pattern_meaning.specs.PatternRows.{is_of, matched, name_of, rows_of};
+ghost use Rattle.pattern_meaning.specs.RuleRows.{rows};
+ghost use Rattle.pattern_meaning.specs.Standing.{standing};
+ghost use Rattle.pattern_meaning.specs.Rounds.{of_name, named_in, matched_rows, head_detection, as_detection, statement_detections, next_round, rounds};
 
 use crate::forms::{in_order, join_rows, remaining_rows, rows_of_length, rows_where, rows_within};
 use ev_bind::{Row, instance_atom, match_atom};

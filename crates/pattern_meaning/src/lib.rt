@@ -3,9 +3,5 @@
 
 mod evaluating;
 mod forms;
-mod pairing;
-mod rules;
 
 pub use evaluating::scratch;
-pub use pairing::scratch_pair;
-pub use rules::PairRule;

@@ -11,23 +11,23 @@ returns-in-Err-clause-part g c = none_for _ (g.I.Source.left c.args.input.now) (
 
 pub returns-clause-done : goal.returns-clause-done
 returns-clause-done g c = λ e.
-    on_read (form c.args.words.now) c.in-Some.name.now (g.S.Shelf.holds c.args.shelf.now) c.in-Ok.rule
-    (λ rules. IfSome (g.I.Source.left c.args.input.now) (λ bytes. Gives (g.O.Sink.got c.args.out.now) (g.O.Sink.got c.run_rule.new.out) (out_text rules bytes))) c.in-Some.ensures c.in-Ok.ensures.accepted
-    (c.run_rule.ensures.done (done_cause c.run_rule.result e))
+    on_read (form c.args.words.now) c.in-Some.name.now (g.S.Shelf.holds c.args.shelf.now) (plain_rules c.in-Ok.rules)
+    (λ rules. IfSome (g.I.Source.left c.args.input.now) (λ bytes. Gives (g.O.Sink.got c.args.out.now) (g.O.Sink.got c.run_rules.new.out) (out_text rules bytes))) c.in-Some.ensures c.in-Ok.ensures.accepted
+    (c.run_rules.ensures.done (done_cause c.run_rules.result e))
 
 pub returns-clause-part : goal.returns-clause-part
 returns-clause-part g c =
-    on_read (form c.args.words.now) c.in-Some.name.now (g.S.Shelf.holds c.args.shelf.now) c.in-Ok.rule
-    (λ rules. PartFor rules (g.I.Source.left c.args.input.now) (g.I.Source.left c.run_rule.new.input) (g.O.Sink.got c.args.out.now) (g.O.Sink.got c.run_rule.new.out)) c.in-Some.ensures c.in-Ok.ensures.accepted c.run_rule.ensures.part
+    on_read (form c.args.words.now) c.in-Some.name.now (g.S.Shelf.holds c.args.shelf.now) (plain_rules c.in-Ok.rules)
+    (λ rules. PartFor rules (g.I.Source.left c.args.input.now) (g.I.Source.left c.run_rules.new.input) (g.O.Sink.got c.args.out.now) (g.O.Sink.got c.run_rules.new.out)) c.in-Some.ensures c.in-Ok.ensures.accepted c.run_rules.ensures.part
 
 pub returns-clause-replied : goal.returns-clause-replied
 returns-clause-replied g c = λ e.
-    on_read (form c.args.words.now) c.in-Some.name.now (g.S.Shelf.holds c.args.shelf.now) c.in-Ok.rule
-    (λ rules. OnTaken (g.I.Source.left c.args.input.now) (g.I.Source.left c.run_rule.new.input) (λ taken. Gives (g.O.Sink.got c.args.out.now) (g.O.Sink.got c.run_rule.new.out) (replies (start rules) (ended taken))))
-    c.in-Some.ensures c.in-Ok.ensures.accepted (c.run_rule.ensures.replied (unread_cause c.run_rule.result c.run_rule.ensures.causes e))
+    on_read (form c.args.words.now) c.in-Some.name.now (g.S.Shelf.holds c.args.shelf.now) (plain_rules c.in-Ok.rules)
+    (λ rules. OnTaken (g.I.Source.left c.args.input.now) (g.I.Source.left c.run_rules.new.input) (λ taken. Gives (g.O.Sink.got c.args.out.now) (g.O.Sink.got c.run_rules.new.out) (replies (start rules) (ended taken))))
+    c.in-Some.ensures c.in-Ok.ensures.accepted (c.run_rules.ensures.replied (unread_cause c.run_rules.result c.run_rules.ensures.causes e))
 
 pub returns-clause-long_replied : goal.returns-clause-long_replied
 returns-clause-long_replied g c = λ e.
-    long_on_read (form c.args.words.now) c.in-Some.name.now (g.S.Shelf.holds c.args.shelf.now) c.in-Ok.rule _
-    (λ rules. OnTaken (g.I.Source.left c.args.input.now) (g.I.Source.left c.run_rule.new.input) (λ taken. Gives (g.O.Sink.got c.args.out.now) (g.O.Sink.got c.run_rule.new.out) (replies (start rules) (ended taken))))
-    c.in-Some.ensures c.in-Ok.ensures.accepted (c.run_rule.ensures.long_replied (long_cause c.run_rule.result e))
+    long_on_read (form c.args.words.now) c.in-Some.name.now (g.S.Shelf.holds c.args.shelf.now) (plain_rules c.in-Ok.rules) _
+    (λ rules. OnTaken (g.I.Source.left c.args.input.now) (g.I.Source.left c.run_rules.new.input) (λ taken. Gives (g.O.Sink.got c.args.out.now) (g.O.Sink.got c.run_rules.new.out) (replies (start rules) (ended taken))))
+    c.in-Some.ensures c.in-Ok.ensures.accepted (c.run_rules.ensures.long_replied (long_cause c.run_rules.result e))

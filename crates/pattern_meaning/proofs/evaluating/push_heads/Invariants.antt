@@ -1,5 +1,5 @@
 use Rattle.std.proofs.Common.{◌≡◌, ◌++◌, drop, map}
-use Rattle.pattern_meaning.specs.Scratch.{head_detection}
+use Rattle.pattern_meaning.specs.Rounds.{head_detection}
 use Rattle.pattern_meaning.proofs.evaluating.push_heads.Given as goal
 
 -- the detections so far and those of the rows that are left are all
