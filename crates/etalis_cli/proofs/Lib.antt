@@ -2,6 +2,7 @@ pub mod SessionLaws
 pub mod FeedLaws
 pub mod LineLaws
 pub mod ServeLaws
+pub mod ShownLaws
 pub mod RuleLaws
 pub mod TopLaws
 pub mod NoteLaws

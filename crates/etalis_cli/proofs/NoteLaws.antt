@@ -1,5 +1,5 @@
 -- Notes that go out in several writes.
-use Rattle.std.proofs.Common.{ℕ, ◌+◌, ◌≤◌, min, List, ◌++◌, Option, Result, Ok, Err, length, take, sym, ap, ◌∙◌, arith}
+use Rattle.std.proofs.Common.{ℕ, ◌+◌, ◌≤◌, min, List, ◌++◌, Option, Result, Ok, Err, length, take, refl, sym, ap, ◌∙◌, arith}
 use Rattle.std.specs.Prelude.{OnErr}
 use Rattle.std.proofs.lemmas.List.{take-append-le, take_min}
 use Rattle.std.proofs.Math.Seq.{take-append-add}
@@ -17,6 +17,9 @@ part_longer a b xs ys (n, e) =
 -- a part behind a whole
 pub part_behind : (a b c : Option (List ℕ)) (xs ys : List ℕ) → Gives a b xs → GivesPart b c ys → GivesPart a c (xs ++ ys)
 part_behind a b c xs ys p (n, e) = (length xs + n, gives_more a b c xs (take n ys) (take (length xs + n) (xs ++ ys)) p e (sym (take-append-add xs ys n)))
+
+pub gives_both : (a b c : Option (List ℕ)) (xs ys : List ℕ) → Gives a b xs → Gives b c ys → Gives a c (xs ++ ys)
+gives_both a b c xs ys p q = gives_more a b c xs ys (xs ++ ys) p q refl
 
 -- ---- an error of a call
 

@@ -1,16 +1,17 @@
 -- Which rule a file is accepted as, and why another file is refused.
-use Rattle.std.specs.Prelude.{◌≡◌, ℕ, ◌<◌, ◌≤◌, ◌==◌, Bool, not, ◌&&◌, if◌then◌else◌, List, [], ◌∷◌, ◌++◌, length, Option, Some, None, Result, Ok, Err, codes, decimal}
-use Rattle.std.specs.Option.{option_and_then}
-use Rattle.std.specs.List.{list_all}
-use Rattle.std.specs.Str.{bytes_eq, IsUtf8, IsValidUpTo}
+use Rattle.std.specs.Prelude.{◌≡◌, ◌≢◌, ℕ, ◌<◌, ◌≤◌, List, [], ◌∷◌, ◌++◌, length, Option, Some, None, Result, Ok, Err, codes, decimal}
+use Rattle.std.specs.Option.{option_map}
+use Rattle.std.specs.Str.{IsUtf8, IsValidUpTo}
 use Rattle.ev_term.specs.declared.atoms.PatAtom.{PatAtom}
 use Rattle.ev_term.specs.declared.operators.Op.{Op}
 use Rattle.ev_term.specs.declared.operators.Op.TheVariants.{Seq, And, Par, Equals, Meets, During, Starts, Finishes}
 use Rattle.rule_ast.specs.Trees.{PlainPattern, Atom, Both, Either, Where, Exact, Within, Not, PlainStatement, Clause, Show}
-use Rattle.rule_ast.specs.Vars.{atom_vars, is_in}
 use Rattle.rule_grammar.specs.declared.faults.Which.{Which}
 use Rattle.rule_grammar.specs.declared.faults.Which.TheVariants.{Statements, Parts, Depth, Variables, TermDepth, TermWidth, Length}
 use Rattle.rule_parser.specs.Answers.{Holds, SyntaxIn, LimitIn}
+use Rattle.rule_check.specs.Verdict.{IsSound, IsRefusal}
+use Rattle.rule_check.specs.declared.faults.CheckFault.{CheckFault}
+use Rattle.rule_check.specs.declared.faults.CheckFault.TheVariants as check
 use Rattle.pattern_meaning.specs.declared.rules.PairRule.{PairRule}
 use Rattle.etalis_cli.specs.declared.refusals.Refusal.{Refusal}
 use Rattle.etalis_cli.specs.declared.refusals.Refusal.TheVariants as refusal
@@ -54,21 +55,9 @@ atoms_of (Exact p n) = None
 atoms_of (Within p n) = None
 atoms_of (Not i b a) = None
 
--- the same word with the same number of arguments
-abbrev pub is_same_name : PatAtom → PatAtom → Bool
-is_same_name a b = bytes_eq a.name b.name && (length a.args == length b.args)
-
--- each variable of the head is one of the body, and the head's name isn't a name of the body
-abbrev pub is_linked : PatAtom → PatAtom × PatAtom → Bool
-is_linked head body = list_all (λ slot. is_in slot (atom_vars body.0 ++ atom_vars body.1)) (atom_vars head)
-    && (not (is_same_name head body.0) && not (is_same_name head body.1))
-
-abbrev pub linked : PatAtom → PatAtom × PatAtom → Option PairRule
-linked head body = if is_linked head body then Some (record { head = head; left = body.0; right = body.1 }) else None
-
 -- the rule `head <- left SEQ right` that a statement is
 abbrev pub pair_said : PlainStatement → Option PairRule
-pair_said (Clause rule) = option_and_then (linked rule.head) (atoms_of rule.body)
+pair_said (Clause rule) = option_map (λ body. record { head = rule.head; left = body.0; right = body.1 }) (atoms_of rule.body)
 pair_said (Show names) = None
 
 -- the same of exactly one statement
@@ -84,11 +73,12 @@ pub record IsText (file : List ℕ) : Type 0 where
   pub short : length file ≤ 1048576
   pub utf8 : IsUtf8 file
 
--- the file's text holds the one rule
+-- the file's text holds the one rule, and it is sound
 pub record Accepted (file : List ℕ) (rule : PairRule) : Type 0 where
   pub text : IsText file
   pub rules : List PlainStatement
   pub holds : Holds file rules
+  pub sound : IsSound rules
   pub pair : pair_of rules ≡ Some rule
 
 abbrev pub IsAccepted : List ℕ → Type 0
@@ -98,11 +88,20 @@ IsAccepted file = (rule : PairRule) × Accepted file rule
 abbrev pub HasNone : List ℕ → Type 0
 HasNone file = (rule : PairRule) → ¬ (Accepted file rule)
 
--- the file's text holds rules that aren't built
+-- the file's text holds rules that aren't sound, and this is their first fault
+pub record IsUnsound (file : List ℕ) (fault : CheckFault) : Type 0 where
+  pub text : IsText file
+  pub rules : List PlainStatement
+  pub holds : Holds file rules
+  pub first : IsRefusal fault rules
+  pub found : fault ≢ check.Memory
+
+-- the file's text holds sound rules that aren't built
 pub record IsUnbuilt (file : List ℕ) : Type 0 where
   pub text : IsText file
   pub rules : List PlainStatement
   pub holds : Holds file rules
+  pub sound : IsSound rules
   pub none : pair_of rules ≡ None
 
 -- the first of these that holds of the file
@@ -111,6 +110,7 @@ IsRefused file refusal.TooLong = 1048576 < length file
 IsRefused file (refusal.NotUtf8 at) = (length file ≤ 1048576) × IsValidUpTo file at
 IsRefused file (refusal.Syntax at) = IsText file × SyntaxIn file at
 IsRefused file (refusal.Limit which at) = IsText file × LimitIn file which at
+IsRefused file (refusal.Unsound fault) = IsUnsound file fault
 IsRefused file refusal.Unbuilt = IsUnbuilt file
 
 -- the file is accepted as this rule, or refused for this cause and accepted as none
@@ -121,9 +121,16 @@ Judged file (Err fault.Memory) = Unit {0}
 
 -- ---- what is told of a refused file
 
--- words with a place behind them, in decimal
+-- a number in decimal between words
+abbrev pub numbered : List ℕ → ℕ → List ℕ → List ℕ
+numbered front number back = front ++ (decimal number ++ back)
+
 abbrev pub placed : List ℕ → ℕ → List ℕ
-placed words at = words ++ (decimal at ++ codes "\n")
+placed front at = numbered front at (codes "\n")
+
+-- a fault of a rule, with the name of a variable
+abbrev pub named : ℕ → List ℕ → List ℕ → List ℕ
+named number words name = numbered (codes "etalis: rules: rule ") number words ++ (name ++ codes "\n")
 
 abbrev pub limit_words : Which → List ℕ
 limit_words Statements = codes "etalis: rules: limit statements at "
@@ -134,9 +141,20 @@ limit_words TermDepth = codes "etalis: rules: limit term depth at "
 limit_words TermWidth = codes "etalis: rules: limit term width at "
 limit_words Length = codes "etalis: rules: limit length at "
 
+-- want of memory is told as such, and refuses no file
+abbrev pub fault_note : CheckFault → List ℕ
+fault_note (check.HeadUnbound number name) = named number (codes ": head ") name
+fault_note (check.WhereUnbound number name) = named number (codes ": where ") name
+fault_note (check.OrVariables number name) = named number (codes ": or ") name
+fault_note (check.NotVariables number name) = named number (codes ": not ") name
+fault_note (check.ShowUnknown number) = numbered (codes "etalis: rules: show ") number (codes ": unknown\n")
+fault_note (check.Cycle number) = numbered (codes "etalis: rules: rule ") number (codes ": cycle\n")
+fault_note check.Memory = codes "etalis: out of memory\n"
+
 abbrev pub refusal_note : Refusal → List ℕ
 refusal_note refusal.TooLong = codes "etalis: rules: over 1048576 bytes\n"
 refusal_note (refusal.NotUtf8 at) = placed (codes "etalis: rules: not utf-8 at ") at
 refusal_note (refusal.Syntax at) = placed (codes "etalis: rules: syntax at ") at
 refusal_note (refusal.Limit which at) = placed (limit_words which) at
+refusal_note (refusal.Unsound fault) = fault_note fault
 refusal_note refusal.Unbuilt = codes "etalis: rules: unbuilt\n"

@@ -1,16 +1,14 @@
 // Rule files to rules.
 ghost use Rattle.std.specs.Prelude.{◌≡◌, ℕ, List};
-ghost use Rattle.std.specs.List.{list_all, flat_map};
-ghost use Rattle.ev_term.specs.SlotSets.{slot_in};
 ghost use Rattle.rule_ast.specs.Trees.{Clause};
-ghost use Rattle.rule_ast.specs.Vars.{slots_of};
 ghost use Rattle.rule_ast.specs.Plain.{plain_pattern, plain_rule, plain_rules};
-ghost use Rattle.etalis_cli.specs.Rules.{atom_of, atoms_of, is_same_name, pair_said, pair_of, Accepted, Judged};
+ghost use Rattle.etalis_cli.specs.Rules.{atom_of, atoms_of, pair_said, pair_of, Accepted, Judged};
 
 use crate::refusals::Refusal;
-use ev_term::{Op, Pat, PatAtom, Slots};
+use ev_term::{Op, PatAtom};
 use pattern_meaning::PairRule;
-use rule_ast::{Pattern, Rule, RuleSet, Statement, vars_of};
+use rule_ast::{Pattern, Rule, RuleSet, Statement};
+use rule_check::{CheckFault, check};
 use rule_parser::{ParseFault, parse};
 use std::alloc::Global;
 
@@ -45,52 +43,12 @@ fn atoms_of(pattern: Pattern) -> Option<(PatAtom, PatAtom)>
     Some((left, right))
 }
 
-// Whether each variable of an argument is one of these.
-#[cycle(bound)]
-#[tactic(auto, using(crate::proofs::RuleLaws::bound_steps))]
-fn is_bound(pat: &Pat, vars: &Slots) -> bool
-    ensures { result ≡ list_all (slot_in vars.now) (slots_of pat.now) }
-{
-    match pat {
-        Pat::Var(slot) => vars.has(*slot),
-        Pat::Comp(_, pats) => all_bound(pats.as_slice(), vars),
-        Pat::Any | Pat::Num(_) | Pat::Sym(_) | Pat::Text(_) => true,
-    }
-}
-
-#[cycle(bound)]
-#[tactic(auto, using(crate::proofs::RuleLaws::bound_steps))]
-fn all_bound(pats: &[Pat], vars: &Slots) -> bool
-    ensures { result ≡ list_all (slot_in vars.now) (flat_map slots_of pats.now) }
-{
-    for pat in pats {
-        if !is_bound(pat, vars) {
-            return false;
-        }
-    }
-    true
-}
-
-fn is_same_name(a: &PatAtom, b: &PatAtom) -> bool
-    ensures { result ≡ is_same_name a.now b.now }
-{
-    a.name.as_str().as_bytes() == b.name.as_str().as_bytes()
-        && a.args.as_slice().len() == b.args.as_slice().len()
-}
-
 // The rule of two atoms that a rule is.
 fn pair_of_rule(rule: Rule) -> Option<PairRule>
     ensures { result ≡ pair_said (Clause (plain_rule rule)) }
 {
     let Rule { head, body, .. } = rule;
-    let body_vars = vars_of(&body);
     let (left, right) = atoms_of(body)?;
-    if !all_bound(head.args.as_slice(), &body_vars) {
-        return None;
-    }
-    if is_same_name(&head, &left) || is_same_name(&head, &right) {
-        return None;
-    }
     Some(PairRule { head, left, right })
 }
 
@@ -127,7 +85,14 @@ pub fn accept(alloc: Global, file: &[u8]) -> Result<PairRule, AcceptFault>
         }
         Err(ParseFault::Memory) => return Err(AcceptFault::Memory),
     };
-    match pair_of(rules) {
+    let checked = match check(alloc, rules) {
+        Ok(checked) => checked,
+        Err(fault) => match fault {
+            CheckFault::Memory => return Err(AcceptFault::Memory),
+            fault => return Err(AcceptFault::Refused(Refusal::Unsound(fault))),
+        },
+    };
+    match pair_of(checked.into_rules()) {
         Some(rule) => Ok(rule),
         None => Err(AcceptFault::Refused(Refusal::Unbuilt)),
     }

@@ -1,24 +1,42 @@
 // What is told where a run wasn't done.
 ghost use Rattle.std.specs.Prelude.{◌≡◌, OnOk, OnErr};
 ghost use Rattle.flow_ports.specs.Flow.{CountsFaults, Rose, Gives, GivesPart};
-ghost use Rattle.etalis_cli.specs.Rules.{placed, limit_words, refusal_note};
+ghost use Rattle.etalis_cli.specs.Rules.{numbered, placed, named, limit_words, fault_note, refusal_note};
 ghost use Rattle.etalis_cli.specs.Run.{note_of, Told};
 
 use crate::refusals::Refusal;
 use crate::status::Cause;
+use ev_term::Name;
 use flow_ports::{Failed, Sink, write_whole};
 use itoa::Buffer;
+use rule_check::CheckFault;
 use rule_grammar::Which;
 
-// Writes words, and a place in decimal.
-fn write_placed<N: Sink>(notes: &mut N, words: &[u8], at: usize) -> Result<(), Failed>
-    ensures ok { OnOk result (Gives (N.got notes.old) (N.got notes.new) (placed words.now at)) }
-    ensures err { OnErr result (GivesPart (N.got notes.old) (N.got notes.new) (placed words.now at)) }
+// Writes a number in decimal between words.
+fn write_numbered<N: Sink>(
+    notes: &mut N,
+    front: &[u8],
+    number: u64,
+    back: &[u8],
+) -> Result<(), Failed>
+    ensures ok { OnOk result (Gives (N.got notes.old) (N.got notes.new) (numbered front.now number back.now)) }
+    ensures err { OnErr result (GivesPart (N.got notes.old) (N.got notes.new) (numbered front.now number back.now)) }
     ensures count { CountsFaults (N.faults notes.old) (N.faults notes.new) result }
 {
     let mut buffer = Buffer::new();
-    write_whole(notes, words)?;
-    write_whole(notes, buffer.format(at).as_bytes())?;
+    write_whole(notes, front)?;
+    write_whole(notes, buffer.format(number).as_bytes())?;
+    write_whole(notes, back)
+}
+
+// Writes a fault of a rule, with the name of a variable.
+fn write_named<N: Sink>(notes: &mut N, number: u64, words: &[u8], name: &Name) -> Result<(), Failed>
+    ensures ok { OnOk result (Gives (N.got notes.old) (N.got notes.new) (named number words.now name.now)) }
+    ensures err { OnErr result (GivesPart (N.got notes.old) (N.got notes.new) (named number words.now name.now)) }
+    ensures count { CountsFaults (N.faults notes.old) (N.faults notes.new) result }
+{
+    write_numbered(notes, b"etalis: rules: rule ", number, words)?;
+    write_whole(notes, name.as_str().as_bytes())?;
     write_whole(notes, b"\n")
 }
 
@@ -45,31 +63,76 @@ fn tell_words<N: Sink>(notes: &mut N, words: &[u8])
     }
 }
 
-fn tell_placed<N: Sink>(notes: &mut N, words: &[u8], at: usize)
-    ensures { Told (N.got notes.old) (N.got notes.new) (Rose (N.faults notes.old) (N.faults notes.new)) (placed words.now at) }
+fn tell_numbered<N: Sink>(notes: &mut N, front: &[u8], number: u64, back: &[u8])
+    ensures { Told (N.got notes.old) (N.got notes.new) (Rose (N.faults notes.old) (N.faults notes.new)) (numbered front.now number back.now) }
 {
-    match write_placed(notes, words, at) {
+    match write_numbered(notes, front, number, back) {
         Ok(()) => {}
         Err(Failed) => {}
     }
 }
 
+fn tell_placed<N: Sink>(notes: &mut N, words: &[u8], at: usize)
+    ensures { Told (N.got notes.old) (N.got notes.new) (Rose (N.faults notes.old) (N.faults notes.new)) (placed words.now at) }
+{
+    tell_numbered(notes, words, at as u64, b"\n");
+}
+
+fn tell_named<N: Sink>(notes: &mut N, number: u32, words: &[u8], name: &Name)
+    ensures { Told (N.got notes.old) (N.got notes.new) (Rose (N.faults notes.old) (N.faults notes.new)) (named number words.now name.now) }
+{
+    match write_named(notes, u64::from(number), words, name) {
+        Ok(()) => {}
+        Err(Failed) => {}
+    }
+}
+
+// Writes why rules are refused.
+fn tell_fault<N: Sink>(notes: &mut N, fault: &CheckFault)
+    ensures { Told (N.got notes.old) (N.got notes.new) (Rose (N.faults notes.old) (N.faults notes.new)) (fault_note fault.now) }
+{
+    match fault {
+        CheckFault::HeadUnbound(number, name) => tell_named(notes, *number, b": head ", name),
+        CheckFault::WhereUnbound(number, name) => tell_named(notes, *number, b": where ", name),
+        CheckFault::OrVariables(number, name) => tell_named(notes, *number, b": or ", name),
+        CheckFault::NotVariables(number, name) => tell_named(notes, *number, b": not ", name),
+        CheckFault::ShowUnknown(number) => {
+            tell_numbered(
+                notes,
+                b"etalis: rules: show ",
+                u64::from(*number),
+                b": unknown\n",
+            );
+        }
+        CheckFault::Cycle(number) => {
+            tell_numbered(
+                notes,
+                b"etalis: rules: rule ",
+                u64::from(*number),
+                b": cycle\n",
+            );
+        }
+        CheckFault::Memory => tell_words(notes, b"etalis: out of memory\n"),
+    }
+}
+
 // Writes why a rule file is refused.
-fn tell_refusal<N: Sink>(notes: &mut N, refusal: Refusal)
-    ensures { Told (N.got notes.old) (N.got notes.new) (Rose (N.faults notes.old) (N.faults notes.new)) (refusal_note refusal) }
+fn tell_refusal<N: Sink>(notes: &mut N, refusal: &Refusal)
+    ensures { Told (N.got notes.old) (N.got notes.new) (Rose (N.faults notes.old) (N.faults notes.new)) (refusal_note refusal.now) }
 {
     match refusal {
         Refusal::TooLong => tell_words(notes, b"etalis: rules: over 1048576 bytes\n"),
-        Refusal::NotUtf8(at) => tell_placed(notes, b"etalis: rules: not utf-8 at ", at),
-        Refusal::Syntax(at) => tell_placed(notes, b"etalis: rules: syntax at ", at),
-        Refusal::Limit(which, at) => tell_placed(notes, limit_words(which), at),
+        Refusal::NotUtf8(at) => tell_placed(notes, b"etalis: rules: not utf-8 at ", *at),
+        Refusal::Syntax(at) => tell_placed(notes, b"etalis: rules: syntax at ", *at),
+        Refusal::Limit(which, at) => tell_placed(notes, limit_words(*which), *at),
+        Refusal::Unsound(fault) => tell_fault(notes, fault),
         Refusal::Unbuilt => tell_words(notes, b"etalis: rules: unbuilt\n"),
     }
 }
 
 /// Writes the note of a cause. A failure is dropped.
-pub fn tell<N: Sink>(notes: &mut N, cause: Cause)
-    ensures { Told (N.got notes.old) (N.got notes.new) (Rose (N.faults notes.old) (N.faults notes.new)) (note_of cause) }
+pub fn tell<N: Sink>(notes: &mut N, cause: &Cause)
+    ensures { Told (N.got notes.old) (N.got notes.new) (Rose (N.faults notes.old) (N.faults notes.new)) (note_of cause.now) }
 {
     match cause {
         Cause::Done => {}

@@ -1,13 +1,16 @@
 // Why a rule file is refused.
+use rule_check::CheckFault;
 use rule_grammar::Which;
 
 /// Why a rule file is refused. A place is a number of bytes from the file's begin.
-#[derive(Clone, Copy, Debug, PartialEq, Eq)]
+#[derive(Debug, Drop)]
 pub enum Refusal {
     TooLong,
     /// The longest first part that is UTF-8 ends there.
     NotUtf8(usize),
     Syntax(usize),
     Limit(Which, usize),
+    /// What its rules are refused with; never want of memory.
+    Unsound(CheckFault),
     Unbuilt,
 }

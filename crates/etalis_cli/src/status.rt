@@ -14,7 +14,7 @@ pub enum Status {
 }
 
 /// Why a run ended: a status, of which the read fault has two notes.
-#[derive(Clone, Copy, Debug, PartialEq, Eq)]
+#[derive(Debug, Drop)]
 pub enum Cause {
     Done,
     Usage,

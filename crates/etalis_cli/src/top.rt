@@ -234,13 +234,13 @@ pub fn run<S: Shelf, I: Source, O: Sink, N: Sink>(
         ⊎ (Rose (N.faults notes.old) (N.faults notes.new) × GivesPart (N.got notes.old) (N.got notes.new) text)) }
 {
     let cause = work(alloc, words, shelf, input, out);
-    tell(notes, cause);
-    status_of(cause)
+    tell(notes, &cause);
+    status_of(&cause)
 }
 
 // The status that a cause is told by.
-fn status_of(cause: Cause) -> Status
-    ensures { result ≡ status_of cause }
+fn status_of(cause: &Cause) -> Status
+    ensures { result ≡ status_of cause.now }
 {
     match cause {
         Cause::Done => Status::Done,

@@ -1,18 +1,31 @@
-use Rattle.std.proofs.Common.{sym, ◌∙◌}
-use Rattle.etalis_cli.proofs.RuleLaws.{syntax_refused, limit_refused, unbuilt_refused}
+use Rattle.std.proofs.Common.{refl, sym, ap, ◌∙◌}
+use Rattle.rule_ast.specs.Plain.{plain_rules}
+use Rattle.etalis_cli.specs.Rules.{pair_of}
+use Rattle.etalis_cli.proofs.RuleLaws.{syntax_refused, limit_refused, unsound_refused, unbuilt_refused, few_names}
 use Rattle.etalis_cli.proofs.accepting.accept.Goals as goal
 
 pub returns-in-Err-Syntax : goal.returns-in-Err-Syntax
 returns-in-Err-Syntax c =
     syntax_refused c.args.file.now c.in-Ok.text.now c.in-Ok.ensures.cases.0 c.if-file-gt-MOST_BYTES.false c.in-Ok.ensures.cases.1
-    c.in-Err-Syntax.at c.in-Err-Syntax.field-0 c.in-Err-Syntax.field-0-is c.in-Err-Syntax.ensures.answers c.in-Err-Syntax.ensures.only
+    c.in-Err-Syntax.at _ (sym c.in-Err-Syntax.at-is) c.in-Err-Syntax.field-0 c.in-Err-Syntax.field-0-is c.in-Err-Syntax.ensures.answers c.in-Err-Syntax.ensures.only
 
 pub returns-in-Err-Limit : goal.returns-in-Err-Limit
 returns-in-Err-Limit c =
     limit_refused c.args.file.now c.in-Ok.text.now c.in-Ok.ensures.cases.0 c.if-file-gt-MOST_BYTES.false c.in-Ok.ensures.cases.1
-    c.in-Err-Limit.which c.in-Err-Limit.at c.in-Err-Limit.field-0 c.in-Err-Limit.field-0-is c.in-Err-Limit.ensures.answers c.in-Err-Limit.ensures.only
+    c.in-Err-Limit.which _ c.in-Err-Limit.at _ (sym c.in-Err-Limit.which-is) (sym c.in-Err-Limit.at-is) c.in-Err-Limit.field-0 c.in-Err-Limit.field-0-is c.in-Err-Limit.ensures.answers c.in-Err-Limit.ensures.only
+
+pub check-requires-clause-few : goal.check-requires-clause-few
+check-requires-clause-few c =
+    few_names c.args.file.now c.in-Ok.text.now c.in-Ok.ensures.cases.0 c.if-file-gt-MOST_BYTES.false c.in-Ok.ensures.cases.1
+    c.in-Ok-parse.rules c.in-Ok-parse.ensures.answers c.in-Ok-parse.ensures.only
 
 pub returns-in-None : goal.returns-in-None
 returns-in-None c =
     unbuilt_refused c.args.file.now c.in-Ok.text.now c.in-Ok.ensures.cases.0 c.if-file-gt-MOST_BYTES.false c.in-Ok.ensures.cases.1
-    c.in-Ok-parse.rules c.in-Ok-parse.ensures.answers c.in-Ok-parse.ensures.only (sym c.pair_of.ensures ∙ c.in-None.is)
+    c.in-Ok-parse.rules c.in-Ok-parse.ensures.answers c.in-Ok-parse.ensures.only (c.in-Ok-check.ensures.sound refl)
+    (ap (λ r. pair_of (plain_rules r)) (sym (c.into_rules.ensures ∙ c.in-Ok-check.ensures.kept)) ∙ sym c.pair_of.ensures ∙ c.in-None.is)
+
+pub returns-in_default : goal.returns-in_default
+returns-in_default c =
+    unsound_refused c.args.file.now c.in-Ok.text.now c.in-Ok.ensures.cases.0 c.if-file-gt-MOST_BYTES.false c.in-Ok.ensures.cases.1
+    c.in-Ok-parse.rules c.in-Ok-parse.ensures.answers c.in-Ok-parse.ensures.only c.in-Err-check.fault c.in-Err-check.ensures.refused c.in_default.not-Memory c.in-Err-check.ensures.exact
