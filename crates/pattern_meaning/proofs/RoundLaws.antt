@@ -1,5 +1,5 @@
 -- What the plain evaluator of rules finds is what stands.
-use Rattle.std.proofs.Common.{◌≡◌, ◌≤◌, ◌+◌, max, ℕ, zero, suc, Bool, true, false, cond, ◌&&◌, ◌==◌, List, [], ◌∷◌, ◌++◌, map, length, Option, Some, None, refl, sym, ap, ◌∙◌, subst, append-nil, eq-eqb, arith}
+use Rattle.std.proofs.Common.{◌≡◌, ◌≤◌, ℕ, zero, suc, Bool, true, false, cond, ◌&&◌, ◌==◌, List, [], ◌∷◌, ◌++◌, map, length, Option, Some, None, refl, sym, ap, ◌∙◌, eq-eqb, arith}
 use Rattle.std.specs.Prelude.{option_and_then}
 use Rattle.std.specs.List.{filter, flat_map}
 use Rattle.std.specs.Str.{bytes_eq}
@@ -34,7 +34,7 @@ use Rattle.pattern_meaning.specs.Scratch.{head_detection}
 use Rattle.pattern_meaning.specs.Standing.{detection_of}
 use Rattle.pattern_meaning.specs.RuleRows.{rows, has_head, head_rows, named_rows, name_rows, standing}
 use Rattle.pattern_meaning.specs.Depths.{named_same}
-use Rattle.pattern_meaning.specs.Rounds.{of_name, found_row, named_in, matched_rows, as_detection, rule_detections, statement_detections, next_round, rounds}
+use Rattle.pattern_meaning.specs.Rounds.{of_name, found_row, named_in, matched_rows, as_detection, rule_detections, statement_detections, rounds}
 
 numbered-args : (k : ℕ) (ts : List Term) → map (λ p. p.1) (numbered k ts) ≡ ts
 numbered-args k [] = refl

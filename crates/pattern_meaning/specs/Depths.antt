@@ -1,21 +1,19 @@
 -- From its rank on, a name has the same rows at every depth.
-use Rattle.std.specs.Prelude.{ℕ, zero, suc, ◌≡◌, ◌+◌, ◌<◌, ◌≤◌, ◌==◌, refl, Bool, true, false, cond, ◌||◌, ◌&&◌, List, [], ◌∷◌, ◌++◌, map, length}
+use Rattle.std.specs.Prelude.{ℕ, zero, suc, ◌≡◌, ◌+◌, ◌≤◌, ◌==◌, refl, Bool, true, false, cond, ◌||◌, List, [], ◌∷◌, ◌++◌, map, length}
 use Rattle.std.specs.List.{filter, flat_map}
 use Rattle.std.specs.Str.{bytes_eq}
 use Rattle.std.specs.Cmp.{tied_itself}
 use Rattle.std.specs.Ordering.{is_eq}
 use Rattle.std.specs.declared.cmp.Ordering.{Ordering}
 use Rattle.std.specs.declared.cmp.Ordering.TheVariants.{Less, Equal, Greater}
-use Rattle.std.proofs.Common.{ap, sym, ◌∙◌, arith, subst, eq-eqb, append-nil}
+use Rattle.std.proofs.Common.{ap, sym, ◌∙◌, arith, append-nil}
 use Rattle.std.proofs.lemmas.Bool.{true≢false, eqb-true, and_parts}
 use Rattle.std.proofs.lemmas.Slice.Eq.{bytes_eq-Decides}
-use Rattle.ordered_lists.specs.Lists.{Each, joins}
+use Rattle.ordered_lists.specs.Lists.{Each}
 use Rattle.ordered_lists.specs.Canon.{has, has-append, canon_itself, Rising-canon}
-use Rattle.ordered_lists.specs.Members.{without}
 use Rattle.ev_term.specs.Happenings.{PlainEvent}
-use Rattle.ev_term.specs.declared.operators.Op.TheVariants.{Seq}
 use Rattle.ev_term.specs.declared.atoms.NameArity.{NameArity}
-use Rattle.ev_bind.specs.Rows.{row_cmp, exact_rows}
+use Rattle.ev_bind.specs.Rows.{exact_rows}
 use Rattle.ev_bind.specs.declared.rows.Row.{Row}
 use Rattle.rule_ast.specs.Trees.{PlainPattern, Atom, Both, Either, Where, Exact, Within, Not, PlainRule}
 use Rattle.term_eval.specs.Values.{holds}

@@ -7,3 +7,4 @@ pub mod Rounds
 pub mod Depths
 pub mod WorkedRows
 pub mod WorkedVariables
+pub mod Left

@@ -1,5 +1,5 @@
 -- What the plain evaluator of rules finds, round by round, as one list of detections.
-use Rattle.std.specs.Prelude.{ℕ, zero, suc, Some, List, [], ◌∷◌, ◌++◌, map}
+use Rattle.std.specs.Prelude.{ℕ, zero, suc, Some, List, [], ◌++◌, map}
 use Rattle.std.specs.List.{filter, flat_map}
 use Rattle.ordered_lists.specs.Lists.{some_of}
 use Rattle.ev_term.specs.Happenings.{PlainEvent}

@@ -1,11 +1,10 @@
 -- Rows of small rule files, computed. A word is one letter, by its number: a is 97.
-use Rattle.std.specs.Prelude.{ℕ, pos, ◌≡◌, refl, List, [], ◌∷◌}
+use Rattle.std.specs.Prelude.{ℕ, ◌≡◌, refl, List, [], ◌∷◌}
 use Rattle.ev_term.specs.Happenings.{PlainEvent}
-use Rattle.ev_term.specs.declared.operators.Op.TheVariants.{Seq, And, Par, During}
+use Rattle.ev_term.specs.declared.operators.Op.TheVariants.{Seq, Par, During}
 use Rattle.ev_term.specs.declared.atoms.NameArity.{NameArity}
-use Rattle.ev_term.specs.declared.events.Detection.{Detection}
 use Rattle.ev_bind.specs.declared.rows.Row.{Row}
-use Rattle.rule_ast.specs.Trees.{PlainPattern, Atom, Both, Either, Where, Exact, Within, Not, PlainRule}
+use Rattle.rule_ast.specs.Trees.{PlainPattern, Atom, Both, Either, Exact, Not, PlainRule}
 use Rattle.pattern_meaning.specs.PatternRows.{found}
 use Rattle.pattern_meaning.specs.RuleRows.{name_rows}
 

@@ -1,17 +1,15 @@
 -- Rows of small rule files with variables, computed. A word is one letter, by its number: a is 97.
-use Rattle.std.specs.Prelude.{ℕ, ℤ, pos, ◌≡◌, List, [], ◌∷◌}
+use Rattle.std.specs.Prelude.{ℕ, ℤ, pos, ◌≡◌, [], ◌∷◌}
 use Rattle.ev_term.specs.Happenings.{PlainEvent}
 use Rattle.ev_term.specs.TermOrder.{nums}
 use Rattle.ev_term.specs.declared.operators.Op.TheVariants.{Seq, And}
-use Rattle.ev_term.specs.declared.terms.Pat.{Pat}
-use Rattle.ev_term.specs.declared.terms.Term.{Term}
 use Rattle.ev_term.specs.declared.terms.Term.TheVariants as made
 use Rattle.ev_term.specs.declared.terms.Pat.TheVariants as pat
 use Rattle.ev_bind.specs.Matching.{pairs_of-Var, instance-Var, instance-Num}
 use Rattle.ev_bind.specs.declared.rows.Row.{Row}
 use Rattle.rule_ast.specs.declared.conditions.Calc.TheVariants.{Mul}
 use Rattle.rule_ast.specs.declared.conditions.Cmp.TheVariants.{Gt}
-use Rattle.rule_ast.specs.Trees.{PlainPattern, PlainCond, Value, Calculate, Compare, Atom, Both, Where, PlainRule}
+use Rattle.rule_ast.specs.Trees.{PlainPattern, Value, Calculate, Compare, Atom, Both, Where, PlainRule}
 use Rattle.pattern_meaning.specs.PatternRows.{found}
 use Rattle.pattern_meaning.specs.RuleRows.{name_rows}
 

@@ -9,3 +9,6 @@ mod rules;
 pub use evaluating::scratch;
 pub use pairing::scratch_pair;
 pub use rules::PairRule;
+
+#[cfg(test)]
+mod tests;
