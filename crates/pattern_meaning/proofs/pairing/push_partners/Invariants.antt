@@ -3,7 +3,7 @@ use Rattle.ordered_lists.specs.Lists.{with_each}
 use Rattle.pattern_meaning.specs.Patterns.{Seq}
 use Rattle.pattern_meaning.specs.PatternRows.{joined}
 use Rattle.pattern_meaning.specs.Scratch.{head_detection}
-use Rattle.pattern_meaning.proofs.scratch.push_partners.Given as goal
+use Rattle.pattern_meaning.proofs.pairing.push_partners.Given as goal
 
 -- the detections so far and those that are left are all
 abbrev pub invariant-loop-partner : goal.invariant-loop-partner

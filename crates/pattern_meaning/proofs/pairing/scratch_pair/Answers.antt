@@ -3,7 +3,7 @@ use Rattle.ev_term.specs.EventOrder.{exact_detections}
 use Rattle.pattern_meaning.specs.Patterns.{name_of}
 use Rattle.pattern_meaning.specs.Scratch.{own_detections}
 use Rattle.pattern_meaning.proofs.ScratchLaws.{scratch_is_standing}
-use Rattle.pattern_meaning.proofs.scratch.scratch_pair.Goals as goal
+use Rattle.pattern_meaning.proofs.pairing.scratch_pair.Goals as goal
 
 pub sort_unique-requires : goal.sort_unique-requires
 sort_unique-requires c = exact_detections

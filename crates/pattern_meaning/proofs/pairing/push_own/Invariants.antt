@@ -1,7 +1,7 @@
 use Rattle.std.proofs.Common.{◌≡◌, ◌++◌, drop}
 use Rattle.pattern_meaning.specs.Patterns.{name_of}
 use Rattle.pattern_meaning.specs.Scratch.{own_detections}
-use Rattle.pattern_meaning.proofs.scratch.push_own.Given as goal
+use Rattle.pattern_meaning.proofs.pairing.push_own.Given as goal
 
 -- the detections so far and those that are left are all
 abbrev pub invariant-loop-event : goal.invariant-loop-event
