@@ -13,7 +13,12 @@ use rule_check::CheckFault;
 use rule_grammar::Which;
 
 // Writes a number in decimal between words.
-fn write_numbered<N: Sink>(notes: &mut N, front: &[u8], number: u64, back: &[u8]) -> Result<(), Failed>
+fn write_numbered<N: Sink>(
+    notes: &mut N,
+    front: &[u8],
+    number: u64,
+    back: &[u8],
+) -> Result<(), Failed>
     ensures ok { OnOk result (Gives (N.got notes.old) (N.got notes.new) (numbered front.now number back.now)) }
     ensures err { OnErr result (GivesPart (N.got notes.old) (N.got notes.new) (numbered front.now number back.now)) }
     ensures count { CountsFaults (N.faults notes.old) (N.faults notes.new) result }
@@ -92,10 +97,20 @@ fn tell_fault<N: Sink>(notes: &mut N, fault: &CheckFault)
         CheckFault::OrVariables(number, name) => tell_named(notes, *number, b": or ", name),
         CheckFault::NotVariables(number, name) => tell_named(notes, *number, b": not ", name),
         CheckFault::ShowUnknown(number) => {
-            tell_numbered(notes, b"etalis: rules: show ", u64::from(*number), b": unknown\n");
+            tell_numbered(
+                notes,
+                b"etalis: rules: show ",
+                u64::from(*number),
+                b": unknown\n",
+            );
         }
         CheckFault::Cycle(number) => {
-            tell_numbered(notes, b"etalis: rules: rule ", u64::from(*number), b": cycle\n");
+            tell_numbered(
+                notes,
+                b"etalis: rules: rule ",
+                u64::from(*number),
+                b": cycle\n",
+            );
         }
         CheckFault::Memory => tell_words(notes, b"etalis: out of memory\n"),
     }

@@ -211,7 +211,7 @@ fn refusals_write_nothing_but_their_note(rt: HostRuntime) -> Result<(), Fail> {
     let usage: &[u8] = b"etalis: usage: etalis MODE RULES [--late N] [--seed N] [--lines N]\n";
     let refused = Status::RulesRefused;
     let words: &[&str] = &["run", "r"];
-    let rows: [(&[&str], &[u8], Status, &[u8]); 11] = [
+    let rows: [(&[&str], &[u8], Status, &[u8]); 17] = [
         (&["walk", "r"], AB, Status::Usage, usage),
         (&["run"], AB, Status::Usage, usage),
         (&["run", "-r"], AB, Status::Usage, usage),
@@ -220,7 +220,43 @@ fn refusals_write_nothing_but_their_note(rt: HostRuntime) -> Result<(), Fail> {
             words,
             b"ab(X) <- a(Y) SEQ b(Y).\n",
             refused,
-            b"etalis: rules: unbuilt\n",
+            b"etalis: rules: rule 1: head X\n",
+        ),
+        (
+            words,
+            b"h <- a. x <- a(X) WHERE Y > X.",
+            refused,
+            b"etalis: rules: rule 2: where Y\n",
+        ),
+        (
+            words,
+            b"x <- a(X) OR b(Y).",
+            refused,
+            b"etalis: rules: rule 1: or X\n",
+        ),
+        (
+            words,
+            b"k <- NOT(c(Z)).[a,b].",
+            refused,
+            b"etalis: rules: rule 1: not Z\n",
+        ),
+        (
+            words,
+            b"show z/0. x <- a.",
+            refused,
+            b"etalis: rules: show 1: unknown\n",
+        ),
+        (
+            words,
+            b"x <- y. y <- x.",
+            refused,
+            b"etalis: rules: rule 1: cycle\n",
+        ),
+        (
+            words,
+            b"r(X) <- r(X) SEQ a(X).",
+            refused,
+            b"etalis: rules: rule 1: cycle\n",
         ),
         (words, b"h <- a OR b.", refused, b"etalis: rules: unbuilt\n"),
         (

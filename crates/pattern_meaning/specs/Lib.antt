@@ -5,3 +5,4 @@ pub mod Rounds
 pub mod Depths
 pub mod WorkedRows
 pub mod WorkedVariables
+pub mod Left

@@ -5,3 +5,6 @@ mod evaluating;
 mod forms;
 
 pub use evaluating::scratch;
+
+#[cfg(test)]
+mod tests;

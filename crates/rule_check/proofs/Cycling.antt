@@ -12,9 +12,10 @@ use Rattle.rule_ast.specs.Trees.{PlainRule}
 use Rattle.rule_ast.specs.Vars.{is_in}
 use Rattle.rule_check.specs.Names.{name_cmp, exact_names, head_name, head_names, body_names}
 use Rattle.rule_check.specs.Graphs.{Reaches, stop, step, HasCycle, greatest, leads, IsRankList}
+use Rattle.rule_check.specs.Components.{AreComponents}
 use Rattle.rule_check.specs.Cycles.{below, stands_on, IsOnCycle, AreAcyclic, IsFirstCycle, IsRanking, place, places, graph_of, rank_by}
 use Rattle.rule_check.proofs.Placing.{itself, same_name, no_place}
-use Rattle.rule_check.proofs.NameGraph.{place_below, place_name, place_some, in_places, places_in, targets_of, lead_from, lead_to}
+use Rattle.rule_check.proofs.NameGraph.{place_below, place_name, place_some, in_places, places_in, targets_of, lead_from, lead_to, graph_length, places_inside}
 
 or_cases : (a b : Bool) {P : Type 0} → (a ≡ true → P) → (b ≡ true → P) → (a || b) ≡ true → P
 or_cases true b f g e = f refl
@@ -46,6 +47,11 @@ below_there : (r : PlainRule) (rs : List PlainRule) (n m : NameArity) → has na
 below_there r rs n m e =
     has-append exact_names m (cond (is_eq (name_cmp n (head_name r))) (body_names r.body) []) (below rs n)
     ∙ or_right (has name_cmp m (cond (is_eq (name_cmp n (head_name r))) (body_names r.body) [])) (has name_cmp m (below rs n)) e
+
+-- the names of a rule's body are below its head's
+rule_below : (before rest : List PlainRule) (r : PlainRule) (m : NameArity) → has name_cmp m (body_names r.body) ≡ true → has name_cmp m (below (before ++ r ∷ rest) (head_name r)) ≡ true
+rule_below [] rest r m e = below_here r rest m e
+rule_below (q ∷ before) rest r m e = below_there q (before ++ r ∷ rest) (head_name r) m (rule_below before rest r m e)
 
 -- what stands on a name heads a rule
 stands_head : (rs : List PlainRule) (n m : NameArity) → has name_cmp m (below rs n) ≡ true → has name_cmp n (head_names rs) ≡ true
@@ -195,16 +201,36 @@ cycle_at rules before rest number r is n h =
 
 -- whether nodes of a body reach the head's is whether the rule is on a cycle
 module _ (heads : List NameArity) (rules : List PlainRule) (are : (n : NameArity) → has name_cmp n heads ≡ has name_cmp n (head_names rules)) (r : PlainRule) (node : ℕ) (at : place heads (head_name r) ≡ Some node) where
-  pub cycle_found : (i : ℕ) → is_in i (places heads (body_names r.body)) ≡ true → Reaches (leads (graph_of heads rules)) i node → IsOnCycle rules r
+  cycle_found : (i : ℕ) → is_in i (places heads (body_names r.body)) ≡ true → Reaches (leads (graph_of heads rules)) i node → IsOnCycle rules r
   cycle_found i e t =
       let (m, h, p) = in_places heads (body_names r.body) i e in
       let d = head_name r in
       (m, h, subst (λ y. Reaches (stands_on rules) y (head_name r)) (place_name heads m i p d) (subst (λ y. Reaches (stands_on rules) (get_or heads i d) y) (place_name heads (head_name r) node at d) (name_reaches heads rules d i node t)))
 
-  pub cycle_missed : ((i : ℕ) → is_in i (places heads (body_names r.body)) ≡ true → Reaches (leads (graph_of heads rules)) i node → ⊥) → IsOnCycle rules r → ⊥
+  cycle_missed : ((i : ℕ) → is_in i (places heads (body_names r.body)) ≡ true → Reaches (leads (graph_of heads rules)) i node → ⊥) → IsOnCycle rules r → ⊥
   cycle_missed none (m, h, t) =
       let (i, p, s) = node_reaches heads rules are node m (head_name r) at t in
       none i (places_in heads (body_names r.body) m i h p) s
+
+  -- the head's node leads to those of the body
+  body_leads : (before rest : List PlainRule) → rules ≡ before ++ r ∷ rest → (i : ℕ) → is_in i (places heads (body_names r.body)) ≡ true → leads (graph_of heads rules) node i ≡ true
+  body_leads before rest is i e =
+      let (m, h, p) = in_places heads (body_names r.body) i e in
+      lead_to heads rules node i (head_name r) m at (ap (λ rs. has name_cmp m (below rs (head_name r))) is ∙ rule_below before rest r m h) p
+
+  -- a rule is on a cycle where a name of its body is in the component of the head's
+  module _ (names : List ℕ) (c : AreComponents (graph_of heads rules) names) where
+    node_inside : node < length (graph_of heads rules)
+    node_inside = let a = place_below heads (head_name r) node at in let b = graph_length heads rules in omega (arith, a, b)
+
+    body_inside : (i : ℕ) → is_in i (places heads (body_names r.body)) ≡ true → i < length (graph_of heads rules)
+    body_inside i e = places_inside heads (body_names r.body) (length (graph_of heads rules)) (graph_length heads rules) i e
+
+    pub joined_found : (i : ℕ) → is_in i (places heads (body_names r.body)) ≡ true → get_or names i 0 ≡ get_or names node 0 → IsOnCycle rules r
+    joined_found i e same = cycle_found i e (c.joined i node (body_inside i e) node_inside same)
+
+    pub joined_missed : (before rest : List PlainRule) → rules ≡ before ++ r ∷ rest → ((i : ℕ) → is_in i (places heads (body_names r.body)) ≡ true → get_or names i 0 ≡ get_or names node 0 → ⊥) → IsOnCycle rules r → ⊥
+    joined_missed before rest is none = cycle_missed (λ i e t. none i e (c.apart i node (body_inside i e) node_inside t (step node i i (body_leads before rest is i e) (stop i))))
 
 pub decided : (b : Bool) {P : Type 0} → (b ≡ true → P) → (b ≡ false → P → ⊥) → Decides b P
 decided true f g = (f, λ p. refl)

@@ -5,8 +5,9 @@ pub mod Named
 pub mod CleanRules
 pub mod Places
 pub mod Gathered
-pub mod Seeing
+pub mod Rows
 pub mod Visiting
+pub mod Walking
 pub mod Placing
 pub mod NameGraph
 pub mod Cycling

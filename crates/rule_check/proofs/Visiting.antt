@@ -6,7 +6,7 @@ use Rattle.rule_ast.specs.Vars.{is_in, is_in-none, is_in-cons}
 use Rattle.rule_check.specs.Graphs.{Reaches, stop, step, Returns, greatest, leads, targets, mark_at, is_open, is_new, is_ranked, rank_of, rank_at, tally, AreRanked, Follows, OpenLead, Visited, IsRankList, RankedBelow}
 use Rattle.rule_check.specs.declared.graph.Mark.{Mark}
 use Rattle.rule_check.specs.declared.graph.Mark.TheVariants.{New, Open, Ranked}
-use Rattle.rule_check.proofs.Seeing.{in_more}
+use Rattle.rule_check.proofs.Rows.{in_more}
 use Rattle.std.proofs.lemmas.Bool.Decides.{Decides-eqb}
 
 abbrev pub ones : Bool → ℕ

@@ -29,22 +29,6 @@ leads graph i j = is_in j (targets graph i)
 abbrev pub IsGraph : List (List ℕ) → Type 0
 IsGraph graph = (i j : ℕ) → leads graph i j ≡ true → j < length graph
 
--- whether the node has been seen
-abbrev pub seen_at : List Bool → ℕ → Bool
-seen_at seen node = get_or seen node false
-
-abbrev pub unseen : List Bool → ℕ
-unseen [] = 0
-unseen (b ∷ bs) = cond b 0 1 + unseen bs
-
--- what a walk from a node marks as seen: the node, and of each newly seen one all its targets; it sees nothing else than what it reaches
-pub record Seen (graph : List (List ℕ)) (node : ℕ) (old new : List Bool) : Type 0 where
-  pub here : seen_at new node ≡ true
-  pub keeps : (i : ℕ) → seen_at old i ≡ true → seen_at new i ≡ true
-  pub closed : (i j : ℕ) → seen_at old i ≡ false → seen_at new i ≡ true → leads graph i j ≡ true → seen_at new j ≡ true
-  pub sound : (i : ℕ) → seen_at old i ≡ false → seen_at new i ≡ true → Reaches (leads graph) node i
-  pub fewer : unseen new ≤ unseen old
-
 -- ---- ranks
 
 abbrev pub mark_at : List Mark → ℕ → Mark
@@ -125,10 +109,3 @@ pub record RankedBelow (graph : List (List ℕ)) (marks : List Mark) (below : �
   pub ranked : AreRanked graph marks
   pub closed : (i : ℕ) → is_open (mark_at marks i) ≡ false
   pub done : (i : ℕ) → i < below → is_ranked (mark_at marks i) ≡ true
-
--- what these nodes reach is seen
-pub record SeenFrom (graph : List (List ℕ)) (starts : List ℕ) (seen : List Bool) : Type 0 where
-  pub sized : length seen ≡ length graph
-  pub started : (i : ℕ) → is_in i starts ≡ true → seen_at seen i ≡ true
-  pub closed : (i j : ℕ) → seen_at seen i ≡ true → leads graph i j ≡ true → seen_at seen j ≡ true
-  pub sound : (j : ℕ) → seen_at seen j ≡ true → (i : ℕ) × (is_in i starts ≡ true) × Reaches (leads graph) i j

@@ -67,13 +67,6 @@ impl Checked {
         &self.rules
     }
 
-    /// The rules alone.
-    pub fn into_rules(self) -> RuleSet
-        ensures { result ≡ self }
-    {
-        self.rules
-    }
-
     /// The names whose rows are given out: those of the `show` statements, or all that head rules where there is none.
     pub fn shown(&self) -> &[NameArity]
         ensures { result.now ≡ outputs (plain_rules self.now) }

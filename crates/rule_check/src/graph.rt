@@ -1,8 +1,7 @@
-// Graphs of nodes named by number: what a node reaches, and ranks above those of their targets.
-ghost use Rattle.std.specs.Prelude.{◌≡◌, ℕ, ◌<◌, ◌≤◌, ◌++◌, [], true, false, length, map, OnOk, IfOk};
+// Graphs of nodes named by number, and ranks above those of their targets.
+ghost use Rattle.std.specs.Prelude.{◌≡◌, ◌<◌, ◌≤◌, ◌++◌, [], true, false, length, map, OnOk, IfOk};
 ghost use Rattle.std.specs.Option.{option_map};
-ghost use Rattle.rule_ast.specs.Vars.{is_in};
-ghost use Rattle.rule_check.specs.Graphs.{IsGraph, Seen, AreRanked, OpenLead, HasCycle, IsVisit, AreRanksOf, RankedBelow, SeenFrom, rank_of, Reaches, leads};
+ghost use Rattle.rule_check.specs.Graphs.{IsGraph, AreRanked, OpenLead, HasCycle, IsVisit, AreRanksOf, RankedBelow, rank_of};
 
 use std::alloc::{AllocError, Global};
 use std::marker::Model;
@@ -39,7 +38,7 @@ impl Targets {
         Ok(())
     }
 
-    fn as_slice(&self) -> &[usize]
+    pub(crate) fn as_slice(&self) -> &[usize]
         ensures { result.now ≡ self.now }
     {
         self.nodes.as_slice()
@@ -52,22 +51,6 @@ pub(crate) enum Mark {
     New,
     Open,
     Ranked(u32),
-}
-
-// Marks what the node reaches as seen, past what is seen already.
-pub(crate) fn see_from(graph: &[Targets], node: usize, seen: &mut [bool])
-    requires in_range { node < length graph.now }
-    requires sized { length seen.old ≡ length graph.now }
-    requires graph { IsGraph graph.now }
-    ensures { Seen graph.now node seen.old seen.new }
-{
-    if seen[node] {
-        return;
-    }
-    seen[node] = true;
-    for target in graph[node].as_slice() {
-        see_from(graph, *target, seen);
-    }
 }
 
 // The rank of a node: one more than the greatest of its targets' ranks. Where there is none, a node returns to itself.
@@ -140,34 +123,4 @@ pub(crate) fn ranks_of(alloc: Global, graph: &[Targets]) -> Result<Option<Vec<u3
         return Ok(None);
     }
     Ok(Some(ranks_in(alloc, &marks)?))
-}
-
-// Marks what these nodes reach as seen.
-fn see_all(graph: &[Targets], starts: &[usize], seen: &mut [bool])
-    requires graph { IsGraph graph.now }
-    requires starts { (i : ℕ) → is_in i starts.now ≡ true → i < length graph.now }
-    requires fresh { SeenFrom graph.now [] seen.old }
-    ensures { SeenFrom graph.now starts.now seen.new }
-{
-    for start in starts {
-        see_from(graph, *start, seen);
-    }
-}
-
-// Whether one of these nodes reaches the node.
-pub(crate) fn any_reaches(
-    alloc: Global,
-    graph: &[Targets],
-    starts: &[usize],
-    node: usize,
-) -> Result<bool, AllocError>
-    requires graph { IsGraph graph.now }
-    requires starts { (i : ℕ) → is_in i starts.now ≡ true → i < length graph.now }
-    requires in_range { node < length graph.now }
-    ensures found { IfOk result (λ b. b ≡ true → (i : ℕ) × (is_in i starts.now ≡ true) × Reaches (leads graph.now) i node) }
-    ensures missed { IfOk result (λ b. b ≡ false → (i : ℕ) → is_in i starts.now ≡ true → Reaches (leads graph.now) i node → ⊥) }
-{
-    let mut seen = vec![in alloc; false; graph.len()]?;
-    see_all(graph, starts, &mut seen);
-    Ok(seen[node])
 }

@@ -5,6 +5,7 @@
 mod bodies;
 mod checked;
 mod checking;
+mod components;
 mod dependencies;
 mod faults;
 mod gathering;

@@ -1,7 +1,5 @@
-use Rattle.std.proofs.Common.{refl, sym, subst}
-use Rattle.rule_ast.specs.Plain.{plain_rules}
-use Rattle.etalis_cli.specs.Rules.{Accepted}
-use Rattle.etalis_cli.proofs.RuleLaws.{syntax_refused, limit_refused, unsound_refused, accepted, few_names}
+use Rattle.std.proofs.Common.{sym}
+use Rattle.etalis_cli.proofs.RuleLaws.{syntax_refused, limit_refused, unsound_refused, few_names}
 use Rattle.etalis_cli.proofs.accepting.accept.Goals as goal
 
 pub returns-in-Err-Syntax : goal.returns-in-Err-Syntax
@@ -19,8 +17,7 @@ check-requires-clause-few c =
     few_names c.args.file.now c.in-Ok.text.now c.in-Ok.ensures.cases.0 c.if-file-gt-MOST_BYTES.false c.in-Ok.ensures.cases.1
     c.in-Ok-parse.rules c.in-Ok-parse.ensures.answers c.in-Ok-parse.ensures.only
 
-pub returns : goal.returns
-returns c =
-    subst (λ r. Accepted c.args.file.now (plain_rules r)) (sym c.in-Ok-check.ensures.kept)
-    (accepted c.args.file.now c.in-Ok.text.now c.in-Ok.ensures.cases.0 c.if-file-gt-MOST_BYTES.false c.in-Ok.ensures.cases.1
-    c.in-Ok-parse.rules c.in-Ok-parse.ensures.answers c.in-Ok-parse.ensures.only (c.in-Ok-check.ensures.sound refl))
+pub returns-in_default : goal.returns-in_default
+returns-in_default c =
+    unsound_refused c.args.file.now c.in-Ok.text.now c.in-Ok.ensures.cases.0 c.if-file-gt-MOST_BYTES.false c.in-Ok.ensures.cases.1
+    c.in-Ok-parse.rules c.in-Ok-parse.ensures.answers c.in-Ok-parse.ensures.only c.in-Err-check.fault c.in-Err-check.ensures.refused c.in_default.not-Memory c.in-Err-check.ensures.exact

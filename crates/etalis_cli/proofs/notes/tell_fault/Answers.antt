@@ -1,4 +1,3 @@
-use Rattle.std.proofs.Common.{◌≡◌}
 use Rattle.etalis_cli.proofs.notes.tell_fault.Goals as goal
 
 pub returns-in-HeadUnbound : goal.returns-in-HeadUnbound

@@ -1,5 +1,6 @@
 use Rattle.std.specs.Prelude.{IfSome}
 use Rattle.flow_ports.specs.Flow.{Gives}
+use Rattle.rule_ast.specs.Plain.{plain_rules}
 use Rattle.ev_term.specs.Lines.{ended}
 use Rattle.etalis_cli.specs.Output.{start, replies, out_text}
 use Rattle.etalis_cli.specs.Run.{form, PartFor, OnTaken}

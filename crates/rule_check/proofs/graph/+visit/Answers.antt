@@ -2,7 +2,7 @@ use Rattle.std.proofs.Common.{arith, ◌≡◌, ◌<◌, length, length-set, tak
 use Rattle.std.proofs.lemmas.List.{take_all}
 use Rattle.rule_check.specs.Graphs.{targets, is_ranked}
 use Rattle.rule_check.specs.declared.graph.Mark.{Mark}
-use Rattle.rule_check.proofs.Seeing.{row_is, target_leads, take_target}
+use Rattle.rule_check.proofs.Rows.{row_is, target_leads, take_target}
 use Rattle.rule_check.proofs.Visiting.{visiting_none, visiting_more, visiting_fewer, open_lead, Visiting, top_few, tally_few, visited}
 use Rattle.rule_check.proofs.graph.+visit.Goals as goal
 

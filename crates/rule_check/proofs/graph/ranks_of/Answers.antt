@@ -1,6 +1,6 @@
 use Rattle.std.proofs.Common.{ap, ◌∙◌, refl, length, map}
 use Rattle.rule_check.specs.Graphs.{rank_of}
-use Rattle.rule_check.proofs.Seeing.{written_back}
+use Rattle.rule_check.proofs.Rows.{written_back}
 use Rattle.rule_check.proofs.Visiting.{all_ranked}
 use Rattle.rule_check.proofs.graph.ranks_of.Goals as goal
 
