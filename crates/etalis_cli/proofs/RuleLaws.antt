@@ -55,7 +55,8 @@ module _ (file text : List ℕ) (same : text ≡ file) (short : length file ≤ 
         → IsRefused file (refusal.Unsound f) × HasNone file
     unsound_refused f first found exact = (
       record { text = is_text; rules = plain_rules r; holds = held; first = first; found = found },
-      λ rs a. found (exact (subst IsSound (sym (same_rules rs a.holds)) a.sound)))
+      λ rs a. found (exact (subst IsSound (sym (same_rules rs a.holds)) a.sound)),
+    )
 
     pub accepted : IsSound (plain_rules r) → Accepted file (plain_rules r)
     accepted sound = record { text = is_text; holds = held; sound = sound }

@@ -1,7 +1,6 @@
 // Single calls on their happy path, with ample memory.
 use ev_bind::{Binding, match_atom};
-use ev_term::{Atom, Event, Name, Op, Pat, PatAtom, Pats, Slot, Term, Terms, atom_text, term_text};
-use pattern_meaning::{PairRule, scratch_pair};
+use ev_term::{Atom, Name, Op, Pat, PatAtom, Pats, Slot, Term, Terms, atom_text, term_text};
 use rule_ast::{Pattern, Statement};
 use rule_parser::parse;
 use std::alloc::{AllocError, Global};
@@ -58,29 +57,6 @@ fn texts_are_canonical(rt: HostRuntime) -> Result<(), Fail> {
     let deep = atom(alloc, "f", &[1, -2])?;
     term_text(&Term::Comp(deep.name, deep.args), &mut out)?;
     assert_eq!(rt; out.as_slice(), b"f(1,-2)".as_slice());
-    Ok(())
-}
-
-#[test]
-fn a_pair_is_found_from_scratch(rt: HostRuntime) -> Result<(), Fail> {
-    let alloc = rt.alloc();
-    let x = Some(Slot::new(0));
-    let rule = PairRule {
-        head: pattern(alloc, "ab", &[x])?,
-        left: pattern(alloc, "a", &[x])?,
-        right: pattern(alloc, "b", &[x])?,
-    };
-    let mut events = Vec::new(alloc);
-    events.push(Event::new(1, atom(alloc, "a", &[7])?))?;
-    events.push(Event::new(2, atom(alloc, "b", &[7])?))?;
-    let found = scratch_pair(alloc, &rule, &events)?;
-    assert_eq!(rt; found.len(), 1);
-    let detection = &found[0];
-    assert_eq!(rt; detection.span.start(), 1);
-    assert_eq!(rt; detection.span.end(), 2);
-    let mut out = Vec::new(alloc);
-    atom_text(&detection.atom, &mut out)?;
-    assert_eq!(rt; out.as_slice(), b"ab(7)".as_slice());
     Ok(())
 }
 

@@ -103,6 +103,77 @@ fn documented_outputs(rt: HostRuntime) -> Result<(), Fail> {
     Ok(())
 }
 
+// Each pattern, over added events.
+#[test]
+fn patterns_find_what_the_table_says(rt: HostRuntime) -> Result<(), Fail> {
+    let absent: &[u8] = b"n(X) <- NOT(c(X)).[a(X),b(X)].";
+    let rows: [(&[u8], &[u8], &[u8]); 12] = [
+        (
+            absent,
+            b"+ 1 a(7)\n+ 5 b(7)\n+ 3 c(7)\n",
+            b"ok 1\n+ 1 5 n(7)\nok 2\n- 1 5 n(7)\nok 3\nend 3\n",
+        ),
+        (
+            b"show n/0. s <- a SEQ m. n <- NOT(c).[s,b].",
+            b"+ 1 a\n+ 2 m\n+ 5 m\n+ 3 c\n+ 6 b\n",
+            b"ok 1\nok 2\nok 3\nok 4\nok 5\nend 5\n",
+        ),
+        (
+            b"e <- a OR b.",
+            b"+ 4 a\n+ 4 b\n",
+            b"+ 4 4 e\nok 1\nok 2\nend 2\n",
+        ),
+        (
+            b"d <- a(X) AND a(X).",
+            b"+ 4 a(1)\n",
+            b"+ 4 4 d\nok 1\nend 1\n",
+        ),
+        (
+            b"show p/0. i <- a SEQ b. p <- x DURING i.",
+            b"+ 1 a\n+ 9 b\n+ 5 x\n",
+            b"ok 1\nok 2\nok 3\nend 3\n",
+        ),
+        (
+            b"f <- (a SEQ b).4.",
+            b"+ 1 a\n+ 5 b\n+ 6 b\n",
+            b"ok 1\n+ 1 5 f\nok 2\nok 3\nend 3\n",
+        ),
+        (
+            b"g <- (a(X) SEQ b(Y)) WHERE X * Y > 0.",
+            b"+ 1 a(9223372036854775807)\n+ 2 b(2)\n",
+            b"ok 1\nok 2\nend 2\n",
+        ),
+        (b"", b"+ 1 a\n", b"ok 1\nend 1\n"),
+        (
+            b"show p/0. x <- a SEQ b. y <- c SEQ d. p <- x PAR y.",
+            b"+ 1 a\n+ 3 c\n+ 5 b\n+ 9 d\n",
+            b"ok 1\nok 2\nok 3\n+ 1 9 p\nok 4\nend 4\n",
+        ),
+        (
+            b"q(X) <- c SEQ a(X).",
+            b"+ 5 a(10)\n+ 5 a(2)\n+ 6 a(x)\n+ 6 a(\"x\")\n+ 1 c\n",
+            b"ok 1\nok 2\nok 3\nok 4\n+ 1 5 q(2)\n+ 1 5 q(10)\n+ 1 6 q(x)\n+ 1 6 q(\"x\")\nok 5\nend 5\n",
+        ),
+        (
+            b"n(X) <- NOT(c(X)).[a(X),b(X)]. m(X) <- a(X) SEQ c(X).",
+            b"+ 1 a(7)\n+ 5 b(7)\n+ 3 c(7)\n",
+            b"ok 1\n+ 1 5 n(7)\nok 2\n- 1 5 n(7)\n+ 1 3 m(7)\nok 3\nend 3\n",
+        ),
+        (
+            b"alarm(Id) <- (NOT(ack(Id,_)).[open(Id), due(Id)]) WITHIN 300.",
+            b"+ 100 open(\"O-1\")\n+ 220 due(\"O-1\")\n+ 200 ack(\"O-1\",ann)\n",
+            b"ok 1\n+ 100 220 alarm(\"O-1\")\nok 2\n- 100 220 alarm(\"O-1\")\nok 3\nend 3\n",
+        ),
+    ];
+    for row in rows {
+        let ran = run_over(rt.alloc(), &["run", "r"], row.0, row.1, CALM)?;
+        assert_eq!(rt; ran.status, Status::Done);
+        assert_eq!(rt; ran.out.bytes(), row.2);
+        assert_eq!(rt; ran.notes.bytes(), b"".as_slice());
+    }
+    Ok(())
+}
+
 #[test]
 fn pieces_make_no_difference(rt: HostRuntime) -> Result<(), Fail> {
     let setting = Setting {
@@ -211,7 +282,7 @@ fn refusals_write_nothing_but_their_note(rt: HostRuntime) -> Result<(), Fail> {
     let usage: &[u8] = b"etalis: usage: etalis MODE RULES [--late N] [--seed N] [--lines N]\n";
     let refused = Status::RulesRefused;
     let words: &[&str] = &["run", "r"];
-    let rows: [(&[&str], &[u8], Status, &[u8]); 17] = [
+    let rows: [(&[&str], &[u8], Status, &[u8]); 16] = [
         (&["walk", "r"], AB, Status::Usage, usage),
         (&["run"], AB, Status::Usage, usage),
         (&["run", "-r"], AB, Status::Usage, usage),
@@ -258,7 +329,6 @@ fn refusals_write_nothing_but_their_note(rt: HostRuntime) -> Result<(), Fail> {
             refused,
             b"etalis: rules: rule 1: cycle\n",
         ),
-        (words, b"h <- a OR b.", refused, b"etalis: rules: unbuilt\n"),
         (
             words,
             b"h <- a SEQ.",
