@@ -1,5 +1,5 @@
 -- The rules that a file is accepted as, and why none are.
-use Rattle.std.proofs.Common.{◌≡◌, ◌≢◌, ℕ, ◌≤◌, ◌<◌, ◌^◌, List, length, Some, None, Err, sym, ap, ◌∙◌, subst, arith}
+use Rattle.std.proofs.Common.{◌≡◌, ◌≢◌, ℕ, ◌≤◌, ◌<◌, ◌^◌, List, length, Some, Err, sym, ap, ◌∙◌, subst, arith}
 use Rattle.std.specs.Str.{IsUtf8}
 use Rattle.rule_ast.specs.Trees.{PlainStatement}
 use Rattle.rule_ast.specs.Plain.{plain_rules}

@@ -1,4 +1,3 @@
-use Rattle.std.proofs.Common.{◌≡◌}
 use Rattle.etalis_cli.proofs.notes.tell_refusal.Goals as goal
 
 pub returns-in-NotUtf8 : goal.returns-in-NotUtf8
