@@ -3,6 +3,7 @@ use ev_bind::{Binding, match_atom};
 use ev_term::{Atom, Name, Op, Pat, PatAtom, Pats, Slot, Term, Terms, atom_text, term_text};
 use rule_ast::{Pattern, Statement};
 use rule_parser::parse;
+use rule_writer::rules_text;
 use std::alloc::{AllocError, Global};
 use std::test::Fail;
 
@@ -72,5 +73,14 @@ fn a_rule_is_parsed(rt: HostRuntime) -> Result<(), Fail> {
         )
     );
     assert!(rt; matches!(&rules.statements[1], Statement::Show(_)));
+    Ok(())
+}
+
+#[test]
+fn a_rule_is_read_and_written(rt: HostRuntime) -> Result<(), Fail> {
+    let rules = parse(rt.alloc(), "ab( X )<-a(X) SEQ b(X).").expect(&rt, "rules");
+    assert_eq!(rt; rules.statements.len(), 1);
+    let text = rules_text(rt.alloc(), &rules)?;
+    assert_eq!(rt; text.as_slice(), b"ab(X) <- a(X) SEQ b(X).\n".as_slice());
     Ok(())
 }
