@@ -14,6 +14,3 @@ pub use instances::{instance_atom, instance_of};
 pub use laws::{extensions_are_exact, matches_are_exact, unions_are_exact};
 pub use matching::match_atom;
 pub use rows::{Row, cmp_rows};
-
-#[cfg(test)]
-mod tests;

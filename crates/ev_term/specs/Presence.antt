@@ -1,41 +1,111 @@
--- Inputs, how a line is judged, and the events that are present after a history of inputs.
-use Rattle.std.specs.Prelude.{◌≡◌, Option, Some, None, List, [], ◌∷◌, ◌++◌, map}
-use Rattle.std.proofs.Common.{refl, ap, ◌∙◌}
-use Rattle.ordered_lists.specs.Canon.{canon, place}
-use Rattle.ordered_lists.specs.Members.{canon-snoc}
+-- Histories of inputs: the copies of an event, the events that are present, the bound, and how a line is judged.
+use Rattle.std.specs.Prelude.{◌≡◌, ℕ, suc, ◌-◌, max, Bool, true, false, ◌&&◌, ◌==◌, nat_lt, if◌then◌else◌, Option, Some, None, List, [], ◌∷◌, ◌++◌}
+use Rattle.std.specs.List.{filter, flat_map}
+use Rattle.std.specs.Ordering.{is_eq}
+use Rattle.ordered_lists.specs.Canon.{canon}
 use Rattle.ev_term.specs.Happenings.{PlainEvent}
-use Rattle.ev_term.specs.EventOrder.{event_cmp, exact_events}
+use Rattle.ev_term.specs.EventOrder.{event_cmp}
+use Rattle.ev_term.specs.declared.inputs.Input.{Input}
+use Rattle.ev_term.specs.declared.inputs.Input.TheVariants.{Add, Take, Advance, Nothing}
+use Rattle.ev_term.specs.declared.inputs.Judgement.{Judgement}
+use Rattle.ev_term.specs.declared.inputs.Judgement.TheVariants as judgement
+use Rattle.ev_term.specs.declared.inputs.Refusal.{Refusal}
+use Rattle.ev_term.specs.declared.inputs.Refusal.TheVariants as refusal
 
--- what a line can say
-pub data Input : Type 0 where
-  Add : PlainEvent → Input
+-- ---- the events of a history, which is a list of inputs
 
--- how a line is judged: it says an input that is taken, or it is of no form that is built
-pub data Judgement : Type 0 where
-  Fine : Input → Judgement
-  Unbuilt : Judgement
+abbrev pub added : Input → List PlainEvent
+added (Add e) = e ∷ []
+added (Take e) = []
+added (Advance t) = []
+added Nothing = []
 
--- the judgement of a line that says this event, or nothing
-abbrev pub judged : Option PlainEvent → Judgement
-judged None = Unbuilt
-judged (Some e) = Fine (Add e)
+abbrev pub taken : Input → List PlainEvent
+taken (Add e) = []
+taken (Take e) = e ∷ []
+taken (Advance t) = []
+taken Nothing = []
 
--- a history is a list of inputs; a line adds its input where it is taken
-abbrev pub after_judged : List Input → Judgement → List Input
-after_judged history (Fine input) = history ++ input ∷ []
-after_judged history Unbuilt = history
+-- how many times an event stands in a list
+abbrev pub occurrences : PlainEvent → List PlainEvent → ℕ
+occurrences e [] = 0
+occurrences e (x ∷ xs) = if is_eq (event_cmp e x) then suc (occurrences e xs) else occurrences e xs
 
-abbrev pub event_of : Input → PlainEvent
-event_of (Add e) = e
+-- how many copies of an event there are: those that came without those that were taken back
+abbrev pub copies : List Input → PlainEvent → ℕ
+copies history e = occurrences e (flat_map added history) - occurrences e (flat_map taken history)
 
 -- the events of which a copy is there, each once
 abbrev pub present : List Input → List PlainEvent
-present history = canon event_cmp (map event_of history)
+present history = filter (λ e. nat_lt 0 (copies history e)) (canon event_cmp (flat_map added history))
 
-map-append : {A B : Type 0} (f : A → B) (xs ys : List A) → map f (xs ++ ys) ≡ map f xs ++ map f ys
-map-append f [] ys = refl
-map-append f (x ∷ xs) ys = ap (λ l. f x ∷ l) (map-append f xs ys)
+-- ---- the bound
 
--- one more event takes its place
-pub present-add : (history : List Input) (e : PlainEvent) → present (history ++ Add e ∷ []) ≡ place event_cmp e (present history)
-present-add history e = ap (canon event_cmp) (map-append event_of history (Add e ∷ [])) ∙ canon-snoc exact_events (map event_of history) e
+-- how far an input raises the bound: an event to its time less the lateness, where one is given; a difference below 0 is 0
+abbrev pub raised : Option ℕ → Input → ℕ
+raised None (Add e) = 0
+raised (Some late) (Add e) = e.time - late
+raised late (Take e) = 0
+raised late (Advance t) = t
+raised late Nothing = 0
+
+-- the greatest of 0 and all these
+abbrev pub bound : Option ℕ → List Input → ℕ
+bound late [] = 0
+bound late (input ∷ inputs) = max (raised late input) (bound late inputs)
+
+-- ---- how an input is judged after a history
+
+abbrev pub is_below : ℕ → Input → Bool
+is_below b (Add e) = nat_lt e.time b
+is_below b (Take e) = nat_lt e.time b
+is_below b (Advance t) = nat_lt t b
+is_below b Nothing = false
+
+abbrev pub is_absent : List Input → Input → Bool
+is_absent history (Add e) = false
+is_absent history (Take e) = copies history e == 0
+is_absent history (Advance t) = false
+is_absent history Nothing = false
+
+abbrev pub judge : Option ℕ → List Input → Input → Judgement
+judge late history input =
+    if is_below (bound late history) input then judgement.Below (bound late history) else if is_absent history input then judgement.Absent else judgement.Fine
+
+abbrev pub is_fine : Judgement → Bool
+is_fine judgement.Fine = true
+is_fine (judgement.Below b) = false
+is_fine judgement.Absent = false
+
+-- each input is fine after those before it
+abbrev pub fine_after : Option ℕ → List Input → List Input → Bool
+fine_after late history [] = true
+fine_after late history (input ∷ inputs) = is_fine (judge late history input) && fine_after late (history ++ input ∷ []) inputs
+
+abbrev pub IsAccepted : Option ℕ → List Input → Type 0
+IsAccepted late history = fine_after late [] history ≡ true
+
+-- ---- how a line is judged after a history
+
+-- what a line says: an input, or nothing, with the place from which on no line goes so
+pub data Said : Type 0 where
+  Says : Input → Said
+  Fails : ℕ → Said
+
+pub data Verdict : Type 0 where
+  Taken : Input → Verdict
+  Refused : Refusal → Verdict
+
+abbrev pub verdict_of : Judgement → Input → Verdict
+verdict_of judgement.Fine input = Taken input
+verdict_of (judgement.Below b) input = Refused (refusal.Below b)
+verdict_of judgement.Absent input = Refused refusal.Absent
+
+abbrev pub verdict : Option ℕ → List Input → Said → Verdict
+verdict late history (Says input) = verdict_of (judge late history input) input
+verdict late history (Fails at) = Refused (refusal.Syntax at)
+
+-- a line that is taken adds its input to the history
+abbrev pub after_verdict : List Input → Verdict → List Input
+after_verdict history (Taken input) = history ++ input ∷ []
+after_verdict history (Refused why) = history

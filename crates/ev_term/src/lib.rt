@@ -4,6 +4,7 @@
 mod atoms;
 mod compare;
 mod events;
+mod inputs;
 mod lists;
 mod names;
 mod operators;
@@ -14,6 +15,7 @@ mod texts;
 pub use atoms::{Atom, NameArity, PatAtom};
 pub use compare::{cmp_atoms, cmp_detections, cmp_events, cmp_spans, cmp_terms};
 pub use events::{Detection, Event, Span};
+pub use inputs::{Input, Judgement, Refusal};
 pub use lists::Shared;
 pub use names::Name;
 pub use operators::{Edge, Op};

@@ -1,11 +1,15 @@
 -- What the replies to lines leave: a table of detections that each reply changes.
-use Rattle.std.specs.Prelude.{ℕ, zero, suc, ◌≡◌, refl, Bool, true, false, not, ◌&&◌, ◌||◌, List, [], ◌∷◌, ◌++◌, map, length}
+use Rattle.std.specs.Prelude.{ℕ, zero, suc, ◌+◌, ◌-◌, nat_lt, Option, ◌≡◌, refl, Bool, true, false, not, ◌&&◌, ◌||◌, List, [], ◌∷◌, ◌++◌, map, length}
 use Rattle.std.specs.List.{filter, flat_map}
 use Rattle.std.proofs.Common.{ap, sym, ◌∙◌, append-nil, append_assoc}
+use Rattle.std.proofs.lemmas.List.Concat.{flat_map-append}
 use Rattle.ordered_lists.specs.Canon.{canon, has, Rising, Rising-canon, has-canon, has-append, canon_one}
 use Rattle.ordered_lists.specs.Members.{without, has-without}
 use Rattle.ev_term.specs.EventOrder.{detection_cmp, exact_detections}
-use Rattle.ev_term.specs.Presence.{Input, present}
+use Rattle.ev_term.specs.EventOrder.{event_cmp}
+use Rattle.ev_term.specs.Presence.{Said, Verdict, Taken, Refused, verdict, after_verdict, added, taken, occurrences, present}
+use Rattle.ev_term.specs.declared.inputs.Input.{Input}
+use Rattle.ev_term.specs.declared.inputs.Input.TheVariants.{Add, Take, Advance, Nothing}
 use Rattle.ev_term.specs.declared.atoms.NameArity.{NameArity}
 use Rattle.ev_term.specs.declared.events.Detection.{Detection}
 use Rattle.ev_bind.specs.declared.rows.Row.{Row}
@@ -16,30 +20,7 @@ use Rattle.term_eval.specs.Values.{holds}
 use Rattle.pattern_meaning.specs.PatternRows.{rows_of, matched, name_of, head_row}
 use Rattle.pattern_meaning.specs.RuleRows.{is_long, is_short, remaining, joined_rows, rows, has_head, head_rows, named_rows, name_rows}
 use Rattle.pattern_meaning.specs.Standing.{detection_of, standing}
-
--- the detections that a reply takes away and those that it adds
-pub record Change : Type 0 where
-  pub gone : List Detection
-  pub come : List Detection
-
--- what stood and doesn't stand any more, and what stands now and didn't
-abbrev pub change_between : List Detection → List Detection → Change
-change_between before after = record { gone = without detection_cmp before after; come = without detection_cmp after before }
-
--- the table without those that go, and with those that come
-abbrev pub changed : List Detection → Change → List Detection
-changed table c = canon detection_cmp (without detection_cmp table c.gone ++ c.come)
-
--- what changes leave of a table, one after the other
-abbrev pub left_of : List Detection → List Change → List Detection
-left_of table [] = table
-left_of table (c ∷ changes) = left_of (changed table c) changes
-
--- the changes that inputs make, one after the other, after a history
-abbrev pub changes_along : List PlainStatement → List Input → List Input → List Change
-changes_along statements history [] = []
-changes_along statements history (input ∷ inputs) =
-    change_between (standing statements (present history)) (standing statements (present (history ++ input ∷ []))) ∷ changes_along statements (history ++ input ∷ []) inputs
+use Rattle.pattern_meaning.specs.Replies.{change_between, changed, reply, reply_to_input, left_by, left_of, State, start, after_said, after_all, replies_to}
 
 -- ---- laws
 
@@ -65,12 +46,32 @@ changed_is before after h =
     ∙ ap (λ b. (has detection_cmp q before && not b) || (has detection_cmp q after && not (has detection_cmp q before))) (has-without exact_detections q before after)
     ∙ after_both (has detection_cmp q before) (has detection_cmp q after))
 
-left_after : (statements : List PlainStatement) (history inputs : List Input) → left_of (standing statements (present history)) (changes_along statements history inputs) ≡ standing statements (present (history ++ inputs))
-left_after statements history [] = ap (λ h. standing statements (present h)) (sym (append-nil history))
-left_after statements history (input ∷ inputs) =
-    ap (λ table. left_of table (changes_along statements (history ++ input ∷ []) inputs)) (changed_is (standing statements (present history)) (standing statements (present (history ++ input ∷ []))) (rising_standing statements (history ++ input ∷ [])))
-    ∙ left_after statements (history ++ input ∷ []) inputs
-    ∙ ap (λ h. standing statements (present h)) (append_assoc history (input ∷ []) inputs)
+after_nothing : (history : List Input) → present (history ++ Nothing ∷ []) ≡ present history
+after_nothing history = λ i. filter (λ e. nat_lt 0 (occurrences e (additions i) - occurrences e (takings i))) (canon event_cmp (additions i))
+  where
+    additions : flat_map added (history ++ Nothing ∷ []) ≡ flat_map added history
+    additions = flat_map-append added history (Nothing ∷ []) ∙ append-nil (flat_map added history)
+
+    takings : flat_map taken (history ++ Nothing ∷ []) ≡ flat_map taken history
+    takings = flat_map-append taken history (Nothing ∷ []) ∙ append-nil (flat_map taken history)
+
+-- what the reply to an input leaves of what stood
+left_by_input : (statements : List PlainStatement) (history : List Input) (n : ℕ) (input : Input)
+    → left_by (standing statements (present history)) (reply_to_input statements history n input) ≡ standing statements (present (history ++ input ∷ []))
+left_by_input statements history n (Add e) = changed_is (standing statements (present history)) (standing statements (present (history ++ Add e ∷ []))) (rising_standing statements (history ++ Add e ∷ []))
+left_by_input statements history n (Take e) = changed_is (standing statements (present history)) (standing statements (present (history ++ Take e ∷ []))) (rising_standing statements (history ++ Take e ∷ []))
+left_by_input statements history n (Advance t) = changed_is (standing statements (present history)) (standing statements (present (history ++ Advance t ∷ []))) (rising_standing statements (history ++ Advance t ∷ []))
+left_by_input statements history n Nothing = ap (standing statements) (sym (after_nothing history))
+
+left_by_verdict : (statements : List PlainStatement) (history : List Input) (n : ℕ) (v : Verdict)
+    → left_by (standing statements (present history)) (reply statements history n v) ≡ standing statements (present (after_verdict history v))
+left_by_verdict statements history n (Taken input) = left_by_input statements history n input
+left_by_verdict statements history n (Refused why) = refl
+
+left_after : (s : State) (saids : List Said) → left_of (standing s.rules (present s.history)) (replies_to s saids) ≡ standing s.rules (present (after_all s saids).history)
+left_after s [] = refl
+left_after s (said ∷ saids) =
+    ap (λ table. left_of table (replies_to (after_said s said) saids)) (left_by_verdict s.rules s.history (s.count + 1) (verdict s.late s.history said)) ∙ left_after (after_said s said) saids
 
 -- over no events there are no rows
 no_rows : (named : NameArity → List Row) → ((n : NameArity) → named n ≡ []) → (p : PlainPattern) → rows named p ≡ []
@@ -98,6 +99,8 @@ pub nothing_stands : (statements : List PlainStatement) → standing statements 
 unfolding standing
 nothing_stands statements = ap (canon detection_cmp) (no_detections (rules_of statements) (outputs statements))
 
--- what the replies to a list of inputs leave is what stands over the events that are present then
-pub left_is_standing : (statements : List PlainStatement) (inputs : List Input) → left_of [] (changes_along statements [] inputs) ≡ standing statements (present inputs)
-left_is_standing statements inputs = ap (λ table. left_of table (changes_along statements [] inputs)) (sym (nothing_stands statements)) ∙ left_after statements [] inputs
+-- What the replies to a list of lines leave, each taking its detections away and adding its own, is what stands over the
+-- events that are present after them.
+pub left_is_standing : (statements : List PlainStatement) (late : Option ℕ) (saids : List Said)
+    → left_of [] (replies_to (start statements late) saids) ≡ standing statements (present (after_all (start statements late) saids).history)
+left_is_standing statements late saids = ap (λ table. left_of table (replies_to (start statements late) saids)) (sym (nothing_stands statements)) ∙ left_after (start statements late) saids

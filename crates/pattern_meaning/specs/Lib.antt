@@ -5,4 +5,5 @@ pub mod Rounds
 pub mod Depths
 pub mod WorkedRows
 pub mod WorkedVariables
+pub mod Replies
 pub mod Left

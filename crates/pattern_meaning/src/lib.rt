@@ -5,6 +5,3 @@ mod evaluating;
 mod forms;
 
 pub use evaluating::scratch;
-
-#[cfg(test)]
-mod tests;

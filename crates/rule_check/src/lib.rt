@@ -18,6 +18,3 @@ mod variables;
 pub use checked::Checked;
 pub use checking::check;
 pub use faults::CheckFault;
-
-#[cfg(test)]
-mod tests;

@@ -13,6 +13,3 @@ mod terms;
 
 pub use faults::ParseFault;
 pub use parsing::{one_meaning, parse};
-
-#[cfg(test)]
-mod tests;

@@ -10,6 +10,3 @@ mod writing;
 pub use lexemes::{Lexeme, Natural};
 pub use lexing::{Lexed, lex, lexemes_are_proper, one_lexing};
 pub use writing::written_is_read;
-
-#[cfg(test)]
-mod tests;

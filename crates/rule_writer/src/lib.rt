@@ -11,6 +11,3 @@ mod texts;
 
 pub use round_trip::rule_files_are_read_back;
 pub use statements::rules_text;
-
-#[cfg(test)]
-mod tests;

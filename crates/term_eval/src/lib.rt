@@ -10,6 +10,3 @@ mod values;
 pub use conditions::{holds, value_of};
 pub use laws::arguments_are_exact;
 pub use values::Value;
-
-#[cfg(test)]
-mod tests;

@@ -1,0 +1,121 @@
+-- The replies to lines, as data and as text, and what a list of replies leaves.
+use Rattle.std.specs.Prelude.{ℕ, ◌+◌, Option, List, [], ◌∷◌, ◌++◌, codes, decimal}
+use Rattle.std.specs.List.{flat_map}
+use Rattle.ordered_lists.specs.Canon.{canon}
+use Rattle.ordered_lists.specs.Members.{without}
+use Rattle.ev_term.specs.EventOrder.{detection_cmp}
+use Rattle.ev_term.specs.Text.{atom_text}
+use Rattle.ev_term.specs.Presence.{Said, Verdict, Taken, Refused, verdict, after_verdict, present}
+use Rattle.ev_term.specs.declared.inputs.Input.{Input}
+use Rattle.ev_term.specs.declared.inputs.Input.TheVariants.{Add, Take, Advance, Nothing}
+use Rattle.ev_term.specs.declared.inputs.Refusal.{Refusal}
+use Rattle.ev_term.specs.declared.inputs.Refusal.TheVariants.{Syntax, Below, Absent}
+use Rattle.ev_term.specs.declared.events.Detection.{Detection}
+use Rattle.rule_ast.specs.Trees.{PlainStatement}
+use Rattle.pattern_meaning.specs.Standing.{standing}
+
+-- ---- replies
+
+-- the detections that a line takes away and those that it adds
+pub record Change : Type 0 where
+  pub gone : List Detection
+  pub come : List Detection
+
+-- what stood and doesn't stand any more, and what stands now and didn't, each in order
+abbrev pub change_between : List Detection → List Detection → Change
+change_between before after = record { gone = without detection_cmp before after; come = without detection_cmp after before }
+
+-- the change that one more input makes after a history
+abbrev pub change_by : List PlainStatement → List Input → Input → Change
+change_by statements history input = change_between (standing statements (present history)) (standing statements (present (history ++ input ∷ [])))
+
+-- none, the refusal of line n, or the change that line n makes
+pub data Reply : Type 0 where
+  Silent : Reply
+  Refusing : ℕ → Refusal → Reply
+  Changing : ℕ → Change → Reply
+
+-- to an input that is taken; one that says nothing has none
+abbrev pub reply_to_input : List PlainStatement → List Input → ℕ → Input → Reply
+reply_to_input statements history n (Add e) = Changing n (change_by statements history (Add e))
+reply_to_input statements history n (Take e) = Changing n (change_by statements history (Take e))
+reply_to_input statements history n (Advance t) = Changing n (change_by statements history (Advance t))
+reply_to_input statements history n Nothing = Silent
+
+-- the reply to line n, which is judged so after this history
+abbrev pub reply : List PlainStatement → List Input → ℕ → Verdict → Reply
+reply statements history n (Taken input) = reply_to_input statements history n input
+reply statements history n (Refused why) = Refusing n why
+
+-- ---- their texts, of which each line ends with a line feed
+
+-- the line of a detection behind its sign: `+ START END ATOM` or `- START END ATOM`
+abbrev pub change_text : ℕ → Detection → List ℕ
+change_text sign d = sign ∷ 32 ∷ (decimal d.span.start ++ 32 ∷ (decimal d.span.end ++ 32 ∷ (atom_text d.atom ++ 10 ∷ [])))
+
+abbrev pub change_texts : ℕ → List Detection → List ℕ
+change_texts sign detections = flat_map (change_text sign) detections
+
+abbrev pub ok_text : ℕ → List ℕ
+ok_text n = codes "ok " ++ decimal n ++ codes "\n"
+
+abbrev pub refusal_text : ℕ → Refusal → List ℕ
+refusal_text n (Syntax at) = codes "no " ++ decimal n ++ codes " syntax " ++ decimal at ++ codes "\n"
+refusal_text n (Below bound) = codes "no " ++ decimal n ++ codes " below " ++ decimal bound ++ codes "\n"
+refusal_text n Absent = codes "no " ++ decimal n ++ codes " absent\n"
+
+abbrev pub end_text : ℕ → List ℕ
+end_text n = codes "end " ++ decimal n ++ codes "\n"
+
+-- a change: what goes behind `-`, and then what comes behind `+`
+abbrev pub both_texts : Change → List ℕ
+both_texts c = change_texts 45 c.gone ++ change_texts 43 c.come
+
+abbrev pub reply_text : Reply → List ℕ
+reply_text Silent = []
+reply_text (Refusing n why) = refusal_text n why
+reply_text (Changing n c) = both_texts c ++ ok_text n
+
+-- ---- the replies to a list of lines
+
+-- what lines have come to: the rules, the lateness, the inputs that were taken, and how many lines came
+pub record State : Type 0 where
+  pub rules : List PlainStatement
+  pub late : Option ℕ
+  pub history : List Input
+  pub count : ℕ
+
+-- before the first line
+abbrev pub start : List PlainStatement → Option ℕ → State
+start rules late = record { rules = rules; late = late; history = []; count = 0 }
+
+-- after a line that says so
+abbrev pub after_said : State → Said → State
+after_said s said = record { rules = s.rules; late = s.late; history = after_verdict s.history (verdict s.late s.history said); count = s.count + 1 }
+
+abbrev pub reply_to_said : State → Said → Reply
+reply_to_said s said = reply s.rules s.history (s.count + 1) (verdict s.late s.history said)
+
+abbrev pub after_all : State → List Said → State
+after_all s [] = s
+after_all s (said ∷ more) = after_all (after_said s said) more
+
+abbrev pub replies_to : State → List Said → List Reply
+replies_to s [] = []
+replies_to s (said ∷ more) = reply_to_said s said ∷ replies_to (after_said s said) more
+
+-- ---- what replies leave of a table of detections
+
+-- the table without those that go, and with those that come
+abbrev pub changed : List Detection → Change → List Detection
+changed table c = canon detection_cmp (without detection_cmp table c.gone ++ c.come)
+
+abbrev pub left_by : List Detection → Reply → List Detection
+left_by table Silent = table
+left_by table (Refusing n why) = table
+left_by table (Changing n c) = changed table c
+
+-- one reply after the other
+abbrev pub left_of : List Detection → List Reply → List Detection
+left_of table [] = table
+left_of table (r ∷ replies) = left_of (left_by table r) replies
