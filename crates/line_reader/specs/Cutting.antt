@@ -1,0 +1,15 @@
+-- What a reader of lines gives of the bytes that it holds.
+use Rattle.std.specs.Prelude.{◌≡◌, ◌≢◌, ℕ, ◌<◌, ◌≤◌, Bool, true, false, ◌==◌, List, [], ◌∷◌, ◌++◌, length, Option, Some, None}
+use Rattle.std.specs.List.{list_any}
+use Rattle.ev_term.specs.Lines.{without_cr}
+use Rattle.line_reader.specs.declared.reading.Line.{Line}
+use Rattle.line_reader.specs.declared.reading.Line.TheVariants.{Bytes, Long}
+
+-- no line feed is among these bytes
+abbrev pub NoFeed : List ℕ → Type 0
+NoFeed bytes = list_any (λ b. b == 10) bytes ≡ false
+
+-- the line that these bytes are, behind which a line feed or the end stood: its bytes, or that they are over 65,536
+abbrev pub IsLine : Line → List ℕ → Type 0
+IsLine (Bytes line) raw = (line.now ≡ without_cr raw) × (length (without_cr raw) ≤ 65536)
+IsLine Long raw = 65536 < length (without_cr raw)

@@ -1,0 +1,2 @@
+//! Each public call of the lower crates once.
+#![tactic(auto)]
