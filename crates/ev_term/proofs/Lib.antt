@@ -1,2 +1,3 @@
 pub mod Commas
+mod Fronts
 pub mod SlotSets

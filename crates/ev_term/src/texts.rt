@@ -1,5 +1,6 @@
 // The canonical text of terms and atoms.
-ghost use Rattle.std.specs.Prelude.{◌≡◌, ◌++◌, ◌∷◌, [], OnOk, map};
+ghost use Rattle.std.specs.Prelude.{◌≡◌, ◌++◌, ◌∷◌, [], OnOk, OnErr, map};
+ghost use Rattle.std.specs.Io.{StartsWith};
 ghost use Rattle.std.specs.List.{join_with_byte, flat_map};
 ghost use Rattle.ev_term.specs.Text.{escape, quoted, applied, written, term_text, atom_text};
 
@@ -10,7 +11,8 @@ use std::alloc::AllocError;
 
 // A text between quotes, with its escapes.
 fn push_quoted(text: &[u8], out: &mut Vec<u8>) -> Result<(), AllocError>
-    ensures { OnOk result (out.new.items ≡ out.old.items ++ quoted text.now) }
+    ensures ok { OnOk result (out.new.items ≡ out.old.items ++ quoted text.now) }
+    ensures err { OnErr result (StartsWith out.new.items out.old.items) }
 {
     out.push(b'"')?;
     push_escaped(text, out)?;
@@ -19,7 +21,8 @@ fn push_quoted(text: &[u8], out: &mut Vec<u8>) -> Result<(), AllocError>
 }
 
 fn push_escaped(text: &[u8], out: &mut Vec<u8>) -> Result<(), AllocError>
-    ensures { OnOk result (out.new.items ≡ out.old.items ++ flat_map escape text.now) }
+    ensures ok { OnOk result (out.new.items ≡ out.old.items ++ flat_map escape text.now) }
+    ensures err { OnErr result (StartsWith out.new.items out.old.items) }
 {
     for byte in text {
         push_escape(*byte, out)?;
@@ -28,7 +31,8 @@ fn push_escaped(text: &[u8], out: &mut Vec<u8>) -> Result<(), AllocError>
 }
 
 fn push_escape(byte: u8, out: &mut Vec<u8>) -> Result<(), AllocError>
-    ensures { OnOk result (out.new.items ≡ out.old.items ++ escape byte) }
+    ensures ok { OnOk result (out.new.items ≡ out.old.items ++ escape byte) }
+    ensures err { OnErr result (out.new.items ≡ out.old.items) }
 {
     if byte == b'"' {
         return out.extend_from_slice(b"\\\"");
@@ -47,11 +51,24 @@ fn push_escape(byte: u8, out: &mut Vec<u8>) -> Result<(), AllocError>
 }
 
 /// Appends the canonical text of a term: a number in decimal, a symbol as its name, a text between quotes with the escapes
-/// `\"`, `\\`, `\n` and `\t`, a compound as `name(arg,arg)` without blanks.
+/// `\"`, `\\`, `\n` and `\t`, a compound as `name(arg,arg)` without blanks. Where memory fails, nothing is appended.
+pub fn term_text(t: &Term, out: &mut Vec<u8>) -> Result<(), AllocError>
+    ensures ok { OnOk result (out.new.items ≡ out.old.items ++ term_text t.now) }
+    ensures err { OnErr result (out.new.items ≡ out.old.items) }
+{
+    let before = out.len();
+    let written = push_term(t, out);
+    if written.is_err() {
+        out.truncate(before);
+    }
+    written
+}
+
 #[cycle(text)]
 #[tactic(auto, using(crate::specs::Text::texts))]
-pub fn term_text(t: &Term, out: &mut Vec<u8>) -> Result<(), AllocError>
-    ensures { OnOk result (out.new.items ≡ out.old.items ++ term_text t.now) }
+fn push_term(t: &Term, out: &mut Vec<u8>) -> Result<(), AllocError>
+    ensures ok { OnOk result (out.new.items ≡ out.old.items ++ term_text t.now) }
+    ensures err { OnErr result (StartsWith out.new.items out.old.items) }
 {
     match t {
         Term::Num(n) => {
@@ -73,22 +90,37 @@ pub fn term_text(t: &Term, out: &mut Vec<u8>) -> Result<(), AllocError>
 // The texts of arguments, with a comma between each two.
 #[cycle(text)]
 fn push_args(args: &[Term], out: &mut Vec<u8>) -> Result<(), AllocError>
-    ensures { OnOk result (out.new.items ≡ out.old.items ++ join_with_byte 44 (map term_text args.now)) }
+    ensures ok { OnOk result (out.new.items ≡ out.old.items ++ join_with_byte 44 (map term_text args.now)) }
+    ensures err { OnErr result (StartsWith out.new.items out.old.items) }
 {
     if args.is_empty() {
         return Ok(());
     }
-    term_text(&args[0], out)?;
+    push_term(&args[0], out)?;
     for i in 1..args.len() {
         out.push(b',')?;
-        term_text(&args[i], out)?;
+        push_term(&args[i], out)?;
     }
     Ok(())
 }
 
-/// Appends the canonical text of an atom: `name(arg,arg)`, or the name alone where it has no arguments.
+/// Appends the canonical text of an atom: `name(arg,arg)`, or the name alone where it has no arguments. Where memory
+/// fails, nothing is appended.
 pub fn atom_text(a: &Atom, out: &mut Vec<u8>) -> Result<(), AllocError>
-    ensures { OnOk result (out.new.items ≡ out.old.items ++ atom_text a.now) }
+    ensures ok { OnOk result (out.new.items ≡ out.old.items ++ atom_text a.now) }
+    ensures err { OnErr result (out.new.items ≡ out.old.items) }
+{
+    let before = out.len();
+    let written = push_atom(a, out);
+    if written.is_err() {
+        out.truncate(before);
+    }
+    written
+}
+
+fn push_atom(a: &Atom, out: &mut Vec<u8>) -> Result<(), AllocError>
+    ensures ok { OnOk result (out.new.items ≡ out.old.items ++ atom_text a.now) }
+    ensures err { OnErr result (StartsWith out.new.items out.old.items) }
 {
     let args = a.args.as_slice();
     out.extend_from_slice(a.name.as_str().as_bytes())?;
