@@ -1,7 +1,7 @@
 -- What the replies to lines leave: a table of detections that each reply changes.
 use Rattle.std.specs.Prelude.{ℕ, zero, suc, ◌+◌, ◌-◌, nat_lt, Option, ◌≡◌, refl, Bool, true, false, not, ◌&&◌, ◌||◌, List, [], ◌∷◌, ◌++◌, map, length}
 use Rattle.std.specs.List.{filter, flat_map}
-use Rattle.std.proofs.Common.{ap, sym, ◌∙◌, append-nil, append_assoc}
+use Rattle.std.proofs.Common.{ap, sym, ◌∙◌, subst, append-nil, append_assoc}
 use Rattle.std.proofs.lemmas.List.Concat.{flat_map-append}
 use Rattle.ordered_lists.specs.Canon.{canon, has, Rising, Rising-canon, has-canon, has-append, canon_one}
 use Rattle.ordered_lists.specs.Members.{without, has-without}
@@ -20,7 +20,7 @@ use Rattle.term_eval.specs.Values.{holds}
 use Rattle.pattern_meaning.specs.PatternRows.{rows_of, matched, name_of, head_row}
 use Rattle.pattern_meaning.specs.RuleRows.{is_long, is_short, remaining, joined_rows, rows, has_head, head_rows, named_rows, name_rows}
 use Rattle.pattern_meaning.specs.Standing.{detection_of, standing}
-use Rattle.pattern_meaning.specs.Replies.{change_between, changed, reply, reply_to_input, left_by, left_of, State, start, after_said, after_all, replies_to}
+use Rattle.pattern_meaning.specs.Replies.{Change, change_between, changed, Reply, Silent, Refusing, Changing, reply, reply_to_input, reply_to_said, left_by, left_of, State, start, after_said, after_all, replies_to, IsDifference}
 
 -- ---- laws
 
@@ -104,3 +104,42 @@ nothing_stands statements = ap (canon detection_cmp) (no_detections (rules_of st
 pub left_is_standing : (statements : List PlainStatement) (late : Option ℕ) (saids : List Said)
     → left_of [] (replies_to (start statements late) saids) ≡ standing statements (present (after_all (start statements late) saids).history)
 left_is_standing statements late saids = ap (λ table. left_of table (replies_to (start statements late) saids)) (sym (nothing_stands statements)) ∙ left_after (start statements late) saids
+
+-- ---- what a reply writes
+
+difference : (before after : List Detection) → IsDifference before after (change_between before after)
+difference before after d = (has-without exact_detections d before after, has-without exact_detections d after before)
+
+-- of a reply that changes something
+abbrev Differs : List Detection → List Detection → Reply → Type 0
+Differs before after Silent = Unit {0}
+Differs before after (Refusing n why) = Unit {0}
+Differs before after (Changing n c) = IsDifference before after c
+
+input_differs : (statements : List PlainStatement) (history : List Input) (n : ℕ) (input : Input)
+    → Differs (standing statements (present history)) (standing statements (present (history ++ input ∷ []))) (reply_to_input statements history n input)
+input_differs statements history n (Add e) = difference (standing statements (present history)) (standing statements (present (history ++ Add e ∷ [])))
+input_differs statements history n (Take e) = difference (standing statements (present history)) (standing statements (present (history ++ Take e ∷ [])))
+input_differs statements history n (Advance t) = difference (standing statements (present history)) (standing statements (present (history ++ Advance t ∷ [])))
+input_differs statements history n Nothing = tt
+
+verdict_differs : (statements : List PlainStatement) (history : List Input) (n : ℕ) (v : Verdict)
+    → Differs (standing statements (present history)) (standing statements (present (after_verdict history v))) (reply statements history n v)
+verdict_differs statements history n (Taken input) = input_differs statements history n input
+verdict_differs statements history n (Refused why) = tt
+
+same_rules : (s : State) (saids : List Said) → (after_all s saids).rules ≡ s.rules
+same_rules s [] = refl
+same_rules s (said ∷ saids) = same_rules (after_said s said) saids
+
+-- No reply takes away a detection that doesn't stand before its line or writes one that stands already: it writes just the
+-- differences between what stands before its line and what stands after it.
+pub replies_are_differences : (statements : List PlainStatement) (late : Option ℕ) (saids : List Said) (said : Said) (n : ℕ) (c : Change)
+    → reply_to_said (after_all (start statements late) saids) said ≡ Changing n c
+    → IsDifference (standing statements (present (after_all (start statements late) saids).history)) (standing statements (present (after_said (after_all (start statements late) saids) said).history)) c
+replies_are_differences statements late saids said n c e =
+    let s = after_all (start statements late) saids in
+    let after = after_said s said in
+    subst (λ rules. IsDifference (standing rules (present s.history)) (standing rules (present after.history)) c) (same_rules (start statements late) saids)
+    (subst (Differs (standing s.rules (present s.history)) (standing s.rules (present after.history))) e
+    (verdict_differs s.rules s.history (s.count + 1) (verdict s.late s.history said)))

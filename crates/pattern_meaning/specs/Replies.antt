@@ -1,7 +1,7 @@
 -- The replies to lines, as data and as text, and what a list of replies leaves.
-use Rattle.std.specs.Prelude.{ℕ, ◌+◌, Option, List, [], ◌∷◌, ◌++◌, codes, decimal}
+use Rattle.std.specs.Prelude.{◌≡◌, ℕ, ◌+◌, not, ◌&&◌, Option, List, [], ◌∷◌, ◌++◌, codes, decimal}
 use Rattle.std.specs.List.{flat_map}
-use Rattle.ordered_lists.specs.Canon.{canon}
+use Rattle.ordered_lists.specs.Canon.{canon, has}
 use Rattle.ordered_lists.specs.Members.{without}
 use Rattle.ev_term.specs.EventOrder.{detection_cmp}
 use Rattle.ev_term.specs.Text.{atom_text}
@@ -119,3 +119,10 @@ left_by table (Changing n c) = changed table c
 abbrev pub left_of : List Detection → List Reply → List Detection
 left_of table [] = table
 left_of table (r ∷ replies) = left_of (left_by table r) replies
+
+-- a change writes just the differences: what goes stood before and doesn't after, and what comes stands after and didn't before
+abbrev pub IsDifference : List Detection → List Detection → Change → Type 0
+IsDifference before after c =
+    (d : Detection)
+    → (has detection_cmp d c.gone ≡ (has detection_cmp d before && not (has detection_cmp d after)))
+    × (has detection_cmp d c.come ≡ (has detection_cmp d after && not (has detection_cmp d before)))

@@ -3,5 +3,7 @@
 
 mod evaluating;
 mod forms;
+mod laws;
 
 pub use evaluating::scratch;
+pub use laws::replies_leave_what_stands;
