@@ -3,6 +3,7 @@ pub mod Standing
 pub mod RuleRows
 pub mod Rounds
 pub mod Depths
+pub mod Climbing
 pub mod WorkedRows
 pub mod WorkedVariables
 pub mod Replies

@@ -3,21 +3,20 @@
 ghost use Rattle.std.specs.Prelude.{◌≡◌, ◌++◌, map, max, IfOk, OnOk};
 ghost use Rattle.std.specs.List.{flat_map};
 ghost use Rattle.ordered_lists.specs.Canon.{canon};
-ghost use Rattle.rule_ast.specs.Plain.{plain_pattern, plain_rules, plain_statement};
+ghost use Rattle.rule_ast.specs.Plain.{plain_rules, plain_statement};
 ghost use Rattle.rule_check.specs.Cycles.{rank_of};
 ghost use Rattle.rule_check.specs.Graphs.{greatest};
 ghost use Rattle.rule_check.specs.Names.{outputs};
 ghost use Rattle.rule_check.specs.Sound.{rules_of};
-ghost use Rattle.pattern_meaning.specs.PatternRows.{is_of, matched, name_of, rows_of};
-ghost use Rattle.pattern_meaning.specs.RuleRows.{rows};
+ghost use Rattle.pattern_meaning.specs.PatternRows.{is_of};
 ghost use Rattle.pattern_meaning.specs.Standing.{standing};
-ghost use Rattle.pattern_meaning.specs.Rounds.{of_name, named_in, matched_rows, head_detection, as_detection, statement_detections, next_round, rounds};
+ghost use Rattle.pattern_meaning.specs.Rounds.{of_name, head_detection, as_detection, statement_detections, next_round, rounds};
 
-use crate::forms::{in_order, join_rows, remaining_rows, rows_of_length, rows_where, rows_within};
-use ev_bind::{Row, instance_atom, match_atom};
+use crate::bodies::pattern_rows;
+use ev_bind::{Row, instance_atom};
 use ev_term::{Atom, Detection, Event, NameArity, PatAtom, Span};
 use ordered_lists::sort_unique;
-use rule_ast::{Pattern, Statement};
+use rule_ast::Statement;
 use rule_check::Checked;
 use std::alloc::{AllocError, Global};
 
@@ -127,87 +126,6 @@ fn push_heads(
         })?;
     }
     Ok(())
-}
-
-// The rows of a pattern over what was found.
-fn pattern_rows(
-    alloc: Global,
-    found: &[Detection],
-    pattern: &Pattern,
-) -> Result<Vec<Row>, AllocError>
-    ensures { IfOk result (λ v. v.items ≡ rows (named_in found.now) (plain_pattern pattern.now)) }
-{
-    match pattern {
-        Pattern::Atom(atom) => atom_rows(alloc, found, atom),
-        Pattern::Both(op, left, right) => {
-            let left_rows = pattern_rows(alloc, found, left)?;
-            let right_rows = pattern_rows(alloc, found, right)?;
-            join_rows(alloc, *op, &left_rows, &right_rows)
-        }
-        Pattern::Either(left, right) => {
-            let mut either = pattern_rows(alloc, found, left)?;
-            let mut more = pattern_rows(alloc, found, right)?;
-            either.append(&mut more)?;
-            in_order(either)
-        }
-        Pattern::Where(of, cond) => rows_where(alloc, pattern_rows(alloc, found, of)?, cond),
-        Pattern::Exact(of, length) => {
-            rows_of_length(alloc, pattern_rows(alloc, found, of)?, *length)
-        }
-        Pattern::Within(of, length) => {
-            rows_within(alloc, pattern_rows(alloc, found, of)?, *length)
-        }
-        Pattern::Not {
-            inner,
-            before,
-            after,
-        } => {
-            let before_rows = pattern_rows(alloc, found, before)?;
-            let inner_rows = pattern_rows(alloc, found, inner)?;
-            let after_rows = pattern_rows(alloc, found, after)?;
-            remaining_rows(alloc, &before_rows, &inner_rows, &after_rows)
-        }
-    }
-}
-
-// The rows of an atom of a rule over what was found.
-fn atom_rows(alloc: Global, found: &[Detection], pat: &PatAtom) -> Result<Vec<Row>, AllocError>
-    ensures { IfOk result (λ v. v.items ≡ rows_of (flat_map (matched pat.now) (named_in found.now (name_of pat.now)))) }
-{
-    let matching = matching_rows(alloc, found, pat)?;
-    let sorted = in_order(matching)?;
-    Ok(sorted)
-}
-
-// The rows of the detections that match, in the order of these.
-fn matching_rows(alloc: Global, found: &[Detection], pat: &PatAtom) -> Result<Vec<Row>, AllocError>
-    ensures { IfOk result (λ v. v.items ≡ flat_map (matched_rows pat.now) found.now) }
-{
-    let mut rows = Vec::new(alloc);
-    for detection in found {
-        push_match(alloc, pat, detection, &mut rows)?;
-    }
-    Ok(rows)
-}
-
-fn push_match(
-    alloc: Global,
-    pat: &PatAtom,
-    detection: &Detection,
-    rows: &mut Vec<Row>,
-) -> Result<(), AllocError>
-    ensures { OnOk result (rows.new.items ≡ rows.old.items ++ matched_rows pat.now detection.now) }
-{
-    match match_atom(alloc, pat, &detection.atom)? {
-        None => Ok(()),
-        Some(binding) => {
-            rows.push(Row {
-                binding,
-                span: detection.span,
-            })?;
-            Ok(())
-        }
-    }
 }
 
 fn is_of(name: &NameArity, atom: &Atom) -> bool

@@ -1,6 +1,7 @@
 //! The meaning of patterns: what their rows are, and which detections stand over a set of events.
 #![tactic(auto)]
 
+mod bodies;
 mod evaluating;
 mod forms;
 mod laws;

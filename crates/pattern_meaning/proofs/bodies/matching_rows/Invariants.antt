@@ -1,7 +1,7 @@
 use Rattle.std.proofs.Common.{◌≡◌, ◌++◌, drop}
 use Rattle.std.specs.List.{flat_map}
 use Rattle.pattern_meaning.specs.Rounds.{matched_rows}
-use Rattle.pattern_meaning.proofs.evaluating.matching_rows.Given as goal
+use Rattle.pattern_meaning.proofs.bodies.matching_rows.Given as goal
 
 -- the rows so far and those that are left are all
 abbrev pub invariant-loop-detection : goal.invariant-loop-detection
