@@ -1,2 +1,7 @@
-//! To come.
+//! The lines of replies, appended to a buffer. Where memory fails, nothing is appended.
 #![tactic(auto)]
+
+mod lines;
+
+pub use ev_term::Refusal;
+pub use lines::{change_text, end_text, ok_text, refusal_text};

@@ -3,10 +3,15 @@ use Rattle.std.proofs.Common.{◌≡◌, ℕ, suc, ◌+◌, ◌≤◌, ◌<◌, 
 use Rattle.std.specs.Io.KnownBytes.{append_known}
 use Rattle.flow_ports.specs.Flow.{Gives, GivesPart}
 use Rattle.flow_ports.proofs.FlowLemmas.{append_known-nil, gives_more}
-use Rattle.ev_term.specs.Lines.{without_cr, ended_from, rest_from, ended_from-append, rest_from-append}
-use Rattle.etalis_cli.specs.Output.{State, after, after_line, reply_to, replies}
+use Rattle.ev_term.specs.Lines.{without_cr, ended, rest, ended_from, rest_from, ended_from-append, rest_from-append}
+use Rattle.line_reader.specs.Cutting.{NoFeed}
+use Rattle.line_reader.specs.Holding.{Holds}
+use Rattle.line_reader.specs.declared.reading.LineReader.{LineReader}
+use Rattle.line_reader.proofs.CutLaws.{first_line, first_rest, no_line, no_line_rest, ended_behind, rest_behind}
+use Rattle.pattern_meaning.specs.Replies.{State}
+use Rattle.etalis_cli.specs.Output.{after, after_line, reply_to, replies}
 use Rattle.etalis_cli.specs.StandsFor.{StandsFor}
-use Rattle.etalis_cli.specs.Feeds.{Kept, Feeds, FedTo, FeedsPart}
+use Rattle.etalis_cli.specs.Feeds.{Kept, Feeds, Between, FedTo, FeedsPart}
 use Rattle.etalis_cli.specs.declared.session.Session.{Session}
 
 -- ---- states and replies, one list of lines after another
@@ -23,31 +28,6 @@ replies-append s (l ∷ ls) ms =
 pub count-after : (s : State) (ls : List (List ℕ)) → (after s ls).count ≡ s.count + length ls
 count-after s [] = omega arith
 count-after s (l ∷ ls) = omega (arith, count-after (after_line s l) ls)
-
--- ---- bytes without a line feed
-
-pub ended_plain : (p xs : List ℕ) → ((k : ℕ) → k < length xs → get_or xs k 0 ≡ 10 → ⊥) → ended_from p xs ≡ []
-ended_plain p [] h = refl
-ended_plain p (x ∷ xs) h = at (eqb x 10) refl (ended_plain (p ++ x ∷ []) xs (λ k lt. h (suc k) (omega arith)))
-  where
-    at : (t : Bool) → eqb x 10 ≡ t → ended_from (p ++ x ∷ []) xs ≡ [] → cond t (without_cr p ∷ ended_from [] xs) (ended_from (p ++ x ∷ []) xs) ≡ []
-    at true e f = absurd (h 0 (omega arith) (eqb-true x 10 e))
-    at false e f = f
-
-pub rest_plain : (p xs : List ℕ) → ((k : ℕ) → k < length xs → get_or xs k 0 ≡ 10 → ⊥) → rest_from p xs ≡ p ++ xs
-rest_plain p [] h = sym (append-nil p)
-rest_plain p (x ∷ xs) h = at (eqb x 10) refl (rest_plain (p ++ x ∷ []) xs (λ k lt. h (suc k) (omega arith)) ∙ append_assoc p (x ∷ []) xs)
-  where
-    at : (t : Bool) → eqb x 10 ≡ t → rest_from (p ++ x ∷ []) xs ≡ p ++ (x ∷ xs) → cond t (rest_from [] xs) (rest_from (p ++ x ∷ []) xs) ≡ p ++ (x ∷ xs)
-    at true e f = absurd (h 0 (omega arith) (eqb-true x 10 e))
-    at false e f = f
-
--- a line feed behind them ends one line
-ended_line : (p xs : List ℕ) → ((k : ℕ) → k < length xs → get_or xs k 0 ≡ 10 → ⊥) → ended_from p (xs ++ 10 ∷ []) ≡ without_cr (p ++ xs) ∷ []
-ended_line p xs h = ended_from-append p xs (10 ∷ []) ∙ (λ i. ended_plain p xs h i ++ ended_from (rest_plain p xs h i) (10 ∷ []))
-
-rest_line : (p xs : List ℕ) → rest_from p (xs ++ 10 ∷ []) ≡ []
-rest_line p xs = rest_from-append p xs (10 ∷ [])
 
 -- ---- pieces
 
@@ -76,50 +56,61 @@ feeds_more a b c xs ys p q = record {
 pub part_none : (a : Kept) (got : Option (List ℕ)) (piece : List ℕ) → got ≡ a.got → FeedsPart a got piece
 part_none a got piece e = record { sent = (0, e ∙ sym (append_known-nil a.got)) }
 
--- ---- pieces and the session
+-- ---- pieces with the session and the reader
 
-pub fed_none : (a : Session) (s : State) (part : List ℕ) (got : Option (List ℕ)) → StandsFor a s → FedTo (record { state = s; part = part; got = got }) a part got []
-fed_none a s part got p = record { reached = s; stands = p; feeds = feeds_none _ }
+-- Of a part of a line and a piece, all lines were taken whose line feeds are among the bytes done; the reader holds the rest.
+pub record Drained (start : State) (part piece : List ℕ) (got sent : Option (List ℕ)) (session : Session) (reader : LineReader) : Type 0 where
+  pub reached : State
+  pub done : List ℕ
+  pub left : List ℕ
+  pub whole : part ++ piece ≡ done ++ left
+  pub stands : StandsFor session reached
+  pub holds : Holds reader left
+  pub feeds : Feeds (record { state = start; part = []; got = got }) (record { state = reached; part = []; got = sent }) done
 
-pub fed_more : (old : Kept) (a b : Session) (p q : List ℕ) (g h : Option (List ℕ)) (xs ys zs : List ℕ) → xs ++ ys ≡ zs → FedTo old a p g xs
-    → ((s : State) → StandsFor a s → FedTo (record { state = s; part = p; got = g }) b q h ys) → FedTo old b q h zs
-fed_more old a b p q g h xs ys zs e f more =
-    let m = more f.reached f.stands in
+pub drained_none : (s : State) (part piece : List ℕ) (got : Option (List ℕ)) (session : Session) (reader : LineReader) → StandsFor session s → Holds reader (part ++ piece) → Drained s part piece got got session reader
+drained_none s part piece got session reader p h = record { reached = s; done = []; left = part ++ piece; whole = refl; stands = p; holds = h; feeds = feeds_none _ }
+
+-- one line more
+pub drained_line : (s : State) (part piece : List ℕ) (got : Option (List ℕ)) (t u : List ℕ) (a b : Session) (p q : LineReader) (d : Drained s part piece got (Some t) a p) (raw more : List ℕ)
+    → d.left ≡ raw ++ 10 ∷ more → NoFeed raw → Holds q more → u ≡ t ++ reply_to d.reached (without_cr raw) → StandsFor b (after_line d.reached (without_cr raw)) → Drained s part piece got (Some u) b q
+drained_line s part piece got t u a b p q d raw more e plain h text next =
+    let line : List ℕ = raw ++ 10 ∷ [] in
+    let lines : ended line ≡ without_cr raw ∷ [] = first_line raw [] plain in
     record {
-      reached = m.reached;
-      stands = m.stands;
-      feeds = subst (λ l. Feeds old (record { state = m.reached; part = q; got = h }) l) e (feeds_more _ _ _ xs ys f.feeds m.feeds);
+      reached = after_line d.reached (without_cr raw);
+      done = d.done ++ line;
+      left = more;
+      whole = d.whole ∙ ap (λ l. d.done ++ l) (e ∙ sym (append_assoc raw (10 ∷ []) more)) ∙ sym (append_assoc d.done line more);
+      stands = next;
+      holds = h;
+      feeds = feeds_more _ _ _ d.done line d.feeds (record {
+        state = ap (after d.reached) (sym lines);
+        part = sym (first_rest raw [] plain);
+        got = ap Some (text ∙ ap (λ r. t ++ r) (sym (append-nil (reply_to d.reached (without_cr raw)))) ∙ ap (λ l. t ++ replies d.reached l) (sym lines));
+      });
     }
 
--- a line that ends
-pub fed_line : (a b : Session) (p q t u line : List ℕ) → ((k : ℕ) → k < length line → get_or line k 0 ≡ 10 → ⊥)
-    → ((s : State) → StandsFor a s → u ≡ t ++ reply_to s (without_cr (p ++ line)))
-    → ((s : State) → StandsFor a s → StandsFor b (after_line s (without_cr (p ++ line)))) → q ≡ []
-    → (s : State) → StandsFor a s → FedTo (record { state = s; part = p; got = Some t }) b q (Some u) (line ++ 10 ∷ [])
-fed_line a b p q t u line plain text next part s stands =
-    let lines : ended_from p (line ++ 10 ∷ []) ≡ without_cr (p ++ line) ∷ [] = ended_line p line plain in
+-- no line is left
+pub drained_all : (s : State) (part piece : List ℕ) (got sent : Option (List ℕ)) (session : Session) (reader : LineReader) (d : Drained s part piece got sent session reader) → NoFeed part → NoFeed d.left
+    → FedTo (record { state = s; part = part; got = got }) session reader sent piece
+drained_all s part piece got sent session reader d open plain =
+    let lines : ended d.left ≡ [] = no_line d.left plain in
+    let f : Feeds (record { state = s; part = []; got = got }) (record { state = d.reached; part = d.left; got = sent }) (d.done ++ d.left) = feeds_more _ (record { state = d.reached; part = []; got = sent }) _ d.done d.left d.feeds (record {
+      state = ap (after d.reached) (sym lines);
+      part = sym (no_line_rest d.left plain);
+      got = sym (append_known-nil sent) ∙ ap (λ l. append_known sent (replies d.reached l)) (sym lines);
+    }) in
+    let same_ended : ended (d.done ++ d.left) ≡ ended_from part piece = ap ended (sym d.whole) ∙ sym (ended_behind part piece open) in
+    let same_rest : rest (d.done ++ d.left) ≡ rest_from part piece = ap rest (sym d.whole) ∙ sym (rest_behind part piece open) in
     record {
-      reached = after_line s (without_cr (p ++ line));
-      stands = next s stands;
+      reached = d.reached;
+      rest = d.left;
+      between = record { stands = d.stands; holds = d.holds; open = plain };
       feeds = record {
-        state = ap (after s) (sym lines);
-        part = part ∙ sym (rest_line p line);
-        got = ap Some (text s stands ∙ ap (λ r. t ++ r) (sym (append-nil (reply_to s (without_cr (p ++ line))))) ∙ ap (λ l. t ++ replies s l) (sym lines));
-      };
-    }
-
--- bytes that end no line
-pub fed_rest : (a : Session) (p q : List ℕ) (got : Option (List ℕ)) (xs : List ℕ) → ((k : ℕ) → k < length xs → get_or xs k 0 ≡ 10 → ⊥) → q ≡ p ++ xs
-    → (s : State) → StandsFor a s → FedTo (record { state = s; part = p; got = got }) a q got xs
-fed_rest a p q got xs plain part s stands =
-    let lines : ended_from p xs ≡ [] = ended_plain p xs plain in
-    record {
-      reached = s;
-      stands = stands;
-      feeds = record {
-        state = ap (after s) (sym lines);
-        part = part ∙ sym (rest_plain p xs plain);
-        got = sym (append_known-nil got) ∙ ap (λ l. append_known got (replies s l)) (sym lines);
+        state = f.state ∙ ap (after s) same_ended;
+        part = f.part ∙ same_rest;
+        got = f.got ∙ ap (λ l. append_known got (replies s l)) same_ended;
       };
     }
 
@@ -131,17 +122,18 @@ same_some xs ys e = cc
 gathered : (s : State) (p q t u piece : List ℕ) (b : State) → t ≡ [] → Feeds (record { state = s; part = p; got = Some t }) (record { state = b; part = q; got = Some u }) piece → u ≡ replies s (ended_from p piece)
 gathered s p q t u piece b e f = same_some _ _ f.got ∙ ap (λ l. l ++ replies s (ended_from p piece)) e
 
-pub fed_sent : (s : State) (session : Session) (p q t u piece : List ℕ) (got got' : Option (List ℕ)) → t ≡ [] → FedTo (record { state = s; part = p; got = Some t }) session q (Some u) piece → Gives got got' u
-    → FedTo (record { state = s; part = p; got = got }) session q got' piece
-fed_sent s session p q t u piece got got' e f sent = record {
+pub fed_sent : (s : State) (session : Session) (reader : LineReader) (p t u piece : List ℕ) (got got' : Option (List ℕ)) → t ≡ [] → FedTo (record { state = s; part = p; got = Some t }) session reader (Some u) piece → Gives got got' u
+    → FedTo (record { state = s; part = p; got = got }) session reader got' piece
+fed_sent s session reader p t u piece got got' e f sent = record {
   reached = f.reached;
-  stands = f.stands;
-  feeds = record { state = f.feeds.state; part = f.feeds.part; got = sent ∙ ap (append_known got) (gathered s p q t u piece f.reached e f.feeds) };
+  rest = f.rest;
+  between = f.between;
+  feeds = record { state = f.feeds.state; part = f.feeds.part; got = sent ∙ ap (append_known got) (gathered s p f.rest t u piece f.reached e f.feeds) };
 }
 
-pub part_sent : (s : State) (session : Session) (p q t u piece : List ℕ) (got got' : Option (List ℕ)) → t ≡ [] → FedTo (record { state = s; part = p; got = Some t }) session q (Some u) piece → GivesPart got got' u
+pub part_sent : (s : State) (session : Session) (reader : LineReader) (p t u piece : List ℕ) (got got' : Option (List ℕ)) → t ≡ [] → FedTo (record { state = s; part = p; got = Some t }) session reader (Some u) piece → GivesPart got got' u
     → FeedsPart (record { state = s; part = p; got = got }) got' piece
-part_sent s session p q t u piece got got' e f sent = record { sent = (sent.0, sent.1 ∙ ap (λ r. append_known got (take sent.0 r)) (gathered s p q t u piece f.reached e f.feeds)) }
+part_sent s session reader p t u piece got got' e f sent = record { sent = (sent.0, sent.1 ∙ ap (λ r. append_known got (take sent.0 r)) (gathered s p f.rest t u piece f.reached e f.feeds)) }
 
 -- ---- how many lines a piece ends
 

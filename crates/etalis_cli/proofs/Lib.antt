@@ -1,6 +1,5 @@
 pub mod SessionLaws
 pub mod FeedLaws
-pub mod LineLaws
 pub mod ServeLaws
 pub mod ShownLaws
 pub mod RuleLaws

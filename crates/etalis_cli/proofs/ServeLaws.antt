@@ -7,43 +7,42 @@ use Rattle.std.specs.Io.KnownBytes.{append_known}
 use Rattle.flow_ports.specs.Flow.{Takes, Gives, GivesPart, IsAtEnd}
 use Rattle.flow_ports.proofs.FlowLemmas.{append_known-append, gives_more, takes_more}
 use Rattle.ev_term.specs.Lines.{ended, rest, ended_from, last_line, lines_of, ended_from-append}
-use Rattle.rule_ast.specs.Trees.{PlainStatement}
-use Rattle.pattern_meaning.specs.Standing.{end_text}
-use Rattle.etalis_cli.specs.Output.{State, start, after, replies, out_text}
-use Rattle.etalis_cli.specs.StandsFor.{StandsFor}
-use Rattle.etalis_cli.specs.Feeds.{Kept, Feeds, FedTo, FeedsPart}
+use Rattle.line_reader.specs.declared.reading.LineReader.{LineReader}
+use Rattle.pattern_meaning.specs.Replies.{State, end_text}
+use Rattle.etalis_cli.specs.Output.{Setting, start, after, replies, out_text}
+use Rattle.etalis_cli.specs.Feeds.{Kept, Feeds, Between, FedTo, FeedsPart}
 use Rattle.etalis_cli.specs.Outcome.{begin, Progress, Reached, tail, PartOf, Served}
 use Rattle.etalis_cli.specs.declared.session.Session.{Session}
 use Rattle.etalis_cli.specs.declared.serving.ServeFault.{ServeFault}
 use Rattle.etalis_cli.specs.declared.serving.ServeFault.TheVariants.{Read, Write, Memory, TooLong}
-use Rattle.etalis_cli.proofs.FeedLaws.{count-after, replies-append, feeds_more, feeds_count, replies_both, second}
+use Rattle.etalis_cli.proofs.FeedLaws.{count-after, replies-append, feeds_none, feeds_more, feeds_count, replies_both, second}
 
-module _ (rs : List PlainStatement) where
+module _ (w : Setting) where
   pub progress_more : (left l1 l2 got : Option (List ℕ)) (now next : Kept) (n k : ℕ) (done piece : List ℕ)
-      → Progress rs left l1 got now n done → Takes l1 l2 piece → length piece ≡ k → Feeds now next piece → Progress rs left l2 got next (n + k) (done ++ piece)
+      → Progress w left l1 got now n done → Takes l1 l2 piece → length piece ≡ k → Feeds now next piece → Progress w left l2 got next (n + k) (done ++ piece)
   progress_more left l1 l2 got now next n k done piece p t len f = record {
     takes = takes_more left l1 l2 done piece (done ++ piece) p.takes t refl;
-    feeds = feeds_more (begin rs got) now next done piece p.feeds f;
+    feeds = feeds_more (begin w got) now next done piece p.feeds f;
     count = omega (arith, length-append done piece, p.count);
   }
 
-  pub progress_count : (left l1 got : Option (List ℕ)) (now : Kept) (n : ℕ) (done : List ℕ) → Progress rs left l1 got now n done → now.state.count ≤ n
-  progress_count left l1 got now n done p = omega (arith, feeds_count (begin rs got) now done p.feeds, p.count)
+  pub progress_count : (left l1 got : Option (List ℕ)) (now : Kept) (n : ℕ) (done : List ℕ) → Progress w left l1 got now n done → now.state.count ≤ n
+  progress_count left l1 got now n done p = omega (arith, feeds_count (begin w got) now done p.feeds, p.count)
 
   -- the whole output begins with the replies to the lines that an LF has ended so far
-  pub out_begins : (done more : List ℕ) → (t : List ℕ) × (out_text rs (done ++ more) ≡ replies (start rs) (ended done) ++ t)
+  pub out_begins : (done more : List ℕ) → (t : List ℕ) × (out_text w (done ++ more) ≡ replies (start w) (ended done) ++ t)
   out_begins done more =
       let e : List (List ℕ) = ended_from (rest done) more in
       let l : List (List ℕ) = last_line (rest (done ++ more)) in
-      let s : State = after (start rs) (ended done) in
+      let s : State = after (start w) (ended done) in
       let lines : lines_of (done ++ more) ≡ ended done ++ (e ++ l) = ap (λ x. x ++ l) (ended_from-append [] done more) ∙ append_assoc (ended done) e l in
       let end : List ℕ = end_text (length (lines_of (done ++ more))) in
-      (replies s (e ++ l) ++ end, ap (λ x. replies (start rs) x ++ end) lines ∙ ap (λ x. x ++ end) (replies-append (start rs) (ended done) (e ++ l)) ∙ append_assoc (replies (start rs) (ended done)) (replies s (e ++ l)) end)
+      (replies s (e ++ l) ++ end, ap (λ x. replies (start w) x ++ end) lines ∙ ap (λ x. x ++ end) (replies-append (start w) (ended done) (e ++ l)) ∙ append_assoc (replies (start w) (ended done)) (replies s (e ++ l)) end)
 
-  pub replies_shorter : (xs ys : List ℕ) → length (replies (start rs) (ended xs)) ≤ length (replies (start rs) (ended (xs ++ ys)))
+  pub replies_shorter : (xs ys : List ℕ) → length (replies (start w) (ended xs)) ≤ length (replies (start w) (ended (xs ++ ys)))
   replies_shorter xs ys =
-      let e : length (replies (start rs) (ended (xs ++ ys))) ≡ length (replies (start rs) (ended xs)) + length (replies (after (start rs) (ended xs)) (ended_from (rest xs) ys)) =
-      ap length (ap (replies (start rs)) (ended_from-append [] xs ys) ∙ replies-append (start rs) (ended xs) (ended_from (rest xs) ys)) ∙ length-append (replies (start rs) (ended xs)) (replies (after (start rs) (ended xs)) (ended_from (rest xs) ys)) in
+      let e : length (replies (start w) (ended (xs ++ ys))) ≡ length (replies (start w) (ended xs)) + length (replies (after (start w) (ended xs)) (ended_from (rest xs) ys)) =
+      ap length (ap (replies (start w)) (ended_from-append [] xs ys) ∙ replies-append (start w) (ended xs) (ended_from (rest xs) ys)) ∙ length-append (replies (start w) (ended xs)) (replies (after (start w) (ended xs)) (ended_from (rest xs) ys)) in
       omega (arith, e)
 
   -- of two pieces all replies of the first one went out, and some first part of those of the second one
@@ -64,8 +63,8 @@ module _ (rs : List PlainStatement) where
             ∙ ap (append_known a.got) (sym (take-append-add first more n) ∙ ap (take (length first + n)) (sym joined)),
       )
 
-  pub part_of : (left' got got' : Option (List ℕ)) (before piece : List ℕ) (k : ℕ) → length piece ≤ 8192 → length (replies (start rs) (ended before)) ≤ k → k ≤ length (replies (start rs) (ended (before ++ piece)))
-      → Gives got got' (take k (replies (start rs) (ended (before ++ piece)))) → PartOf rs left' got got' (before ++ piece)
+  pub part_of : (left' got got' : Option (List ℕ)) (before piece : List ℕ) (k : ℕ) → length piece ≤ 8192 → length (replies (start w) (ended before)) ≤ k → k ≤ length (replies (start w) (ended (before ++ piece)))
+      → Gives got got' (take k (replies (start w) (ended (before ++ piece)))) → PartOf w left' got got' (before ++ piece)
   part_of None got got' before piece k small low high sent = record { part = tt }
   part_of (Some more) got got' before piece k small low high sent =
       let done : List ℕ = before ++ piece in
@@ -74,57 +73,57 @@ module _ (rs : List PlainStatement) where
       let len : length done ≡ length before + length piece = length-append before piece in
       let le : m ≤ length before = omega (arith, len) in
       let front : take m done ≡ take m before = take-append-le m before piece le in
-      let mono : length (replies (start rs) (ended (take m before))) ≤ length (replies (start rs) (ended before)) =
-      subst (λ x. length (replies (start rs) (ended (take m before))) ≤ length (replies (start rs) (ended x))) (take-append-drop m before) (replies_shorter (take m before) (drop m before)) in
+      let mono : length (replies (start w) (ended (take m before))) ≤ length (replies (start w) (ended before)) =
+      subst (λ x. length (replies (start w) (ended (take m before))) ≤ length (replies (start w) (ended x))) (take-append-drop m before) (replies_shorter (take m before) (drop m before)) in
       record {
         part = (
           k,
-          sent ∙ ap (append_known got) (sym (take-append-le k (replies (start rs) (ended done)) t high) ∙ ap (take k) (sym begins)),
-          subst (λ x. length (replies (start rs) (ended x)) ≤ k) (sym front) (omega (arith, mono, low)),
+          sent ∙ ap (append_known got) (sym (take-append-le k (replies (start w) (ended done)) t high) ∙ ap (take k) (sym begins)),
+          subst (λ x. length (replies (start w) (ended x)) ≤ k) (sym front) (omega (arith, mono, low)),
         );
       }
 
   -- the last piece's replies went out in part
-  pub part_feeding : (left l1 l2 got got' : Option (List ℕ)) (now : Kept) (n : ℕ) (done piece : List ℕ) → Progress rs left l1 got now n done → length piece ≤ 8192 → FeedsPart now got' piece
-      → PartOf rs l2 got got' (done ++ piece)
+  pub part_feeding : (left l1 l2 got got' : Option (List ℕ)) (now : Kept) (n : ℕ) (done piece : List ℕ) → Progress w left l1 got now n done → length piece ≤ 8192 → FeedsPart now got' piece
+      → PartOf w l2 got got' (done ++ piece)
   part_feeding left l1 l2 got got' now n done piece p small q =
-      let (k, low, high, sent) = part_after (begin rs got) now got' done piece p.feeds q in
+      let (k, low, high, sent) = part_after (begin w got) now got' done piece p.feeds q in
       part_of l2 got got' done piece k small low high sent
 
   -- all replies so far went out
-  pub part_whole : (left l1 got : Option (List ℕ)) (now : Kept) (n : ℕ) (done : List ℕ) → Progress rs left l1 got now n done → PartOf rs l1 got now.got done
+  pub part_whole : (left l1 got : Option (List ℕ)) (now : Kept) (n : ℕ) (done : List ℕ) → Progress w left l1 got now n done → PartOf w l1 got now.got done
   part_whole left l1 got now n done p =
-      let all : List ℕ = replies (start rs) (ended done) in
-      subst (PartOf rs l1 got now.got) (append-nil done)
-      (part_of l1 got now.got done [] (length all) (omega arith) (omega arith) (subst (λ x. length all ≤ length (replies (start rs) (ended x))) (sym (append-nil done)) (omega arith))
-      (p.feeds.got ∙ ap (append_known got) (sym (take_all (length all) all (omega arith)) ∙ ap (λ x. take (length all) (replies (start rs) (ended x))) (sym (append-nil done)))))
+      let all : List ℕ = replies (start w) (ended done) in
+      subst (PartOf w l1 got now.got) (append-nil done)
+      (part_of l1 got now.got done [] (length all) (omega arith) (omega arith) (subst (λ x. length all ≤ length (replies (start w) (ended x))) (sym (append-nil done)) (omega arith))
+      (p.feeds.got ∙ ap (append_known got) (sym (take_all (length all) all (omega arith)) ∙ ap (λ x. take (length all) (replies (start w) (ended x))) (sym (append-nil done)))))
 
   -- ---- the exits
 
   -- the tail is what the whole output has behind the replies so far
-  pub out_text_is : (got : Option (List ℕ)) (now : Kept) (done : List ℕ) → Feeds (begin rs got) now done → out_text rs done ≡ replies (start rs) (ended done) ++ tail now.state now.part
+  pub out_text_is : (got : Option (List ℕ)) (now : Kept) (done : List ℕ) → Feeds (begin w got) now done → out_text w done ≡ replies (start w) (ended done) ++ tail now.state now.part
   out_text_is got now done p =
       let l : List (List ℕ) = last_line (rest done) in
-      let s : State = after (start rs) (ended done) in
-      let count : length (ended done ++ l) ≡ s.count + length l = omega (arith, length-append (ended done) l, count-after (start rs) (ended done)) in
-      let whole : out_text rs done ≡ replies (start rs) (ended done) ++ (replies s l ++ end_text (s.count + length l)) =
-      ap (λ x. x ++ end_text (length (ended done ++ l))) (replies-append (start rs) (ended done) l) ∙ append_assoc (replies (start rs) (ended done)) (replies s l) (end_text (length (ended done ++ l)))
-      ∙ ap (λ n. replies (start rs) (ended done) ++ (replies s l ++ end_text n)) count in
-      whole ∙ ap (λ x. replies (start rs) (ended done) ++ tail x (rest done)) (sym p.state) ∙ ap (λ r. replies (start rs) (ended done) ++ tail now.state r) (sym p.part)
+      let s : State = after (start w) (ended done) in
+      let count : length (ended done ++ l) ≡ s.count + length l = omega (arith, length-append (ended done) l, count-after (start w) (ended done)) in
+      let whole : out_text w done ≡ replies (start w) (ended done) ++ (replies s l ++ end_text (s.count + length l)) =
+      ap (λ x. x ++ end_text (length (ended done ++ l))) (replies-append (start w) (ended done) l) ∙ append_assoc (replies (start w) (ended done)) (replies s l) (end_text (length (ended done ++ l)))
+      ∙ ap (λ n. replies (start w) (ended done) ++ (replies s l ++ end_text n)) count in
+      whole ∙ ap (λ x. replies (start w) (ended done) ++ tail x (rest done)) (sym p.state) ∙ ap (λ r. replies (start w) (ended done) ++ tail now.state r) (sym p.part)
 
   takes_none : (left l1 l2 : Option (List ℕ)) (done : List ℕ) → Takes left l1 done → Takes l1 l2 [] → Takes left l2 done
   takes_none left l1 l2 done p q = takes_more left l1 l2 done [] done p q (append-nil done)
 
   -- at the end of the source a first part of the tail went out
-  part_ending : (l2 got got' : Option (List ℕ)) (now : Kept) (done : List ℕ) → Feeds (begin rs got) now done → IsAtEnd l2 → GivesPart now.got got' (tail now.state now.part) → PartOf rs l2 got got' done
+  part_ending : (l2 got got' : Option (List ℕ)) (now : Kept) (done : List ℕ) → Feeds (begin w got) now done → IsAtEnd l2 → GivesPart now.got got' (tail now.state now.part) → PartOf w l2 got got' done
   part_ending None got got' now done p end q = record { part = tt }
   part_ending (Some more) got got' now done p end q =
-      let first : List ℕ = replies (start rs) (ended done) in
+      let first : List ℕ = replies (start w) (ended done) in
       let last : List ℕ = tail now.state now.part in
       let m : ℕ = length done - 8192 in
-      let all : out_text rs (done ++ more) ≡ first ++ last = ap (out_text rs) (ap (λ x. done ++ x) end ∙ append-nil done) ∙ out_text_is got now done p in
-      let low : length (replies (start rs) (ended (take m done))) ≤ length first =
-      subst (λ x. length (replies (start rs) (ended (take m done))) ≤ length (replies (start rs) (ended x))) (take-append-drop m done) (replies_shorter (take m done) (drop m done)) in
+      let all : out_text w (done ++ more) ≡ first ++ last = ap (out_text w) (ap (λ x. done ++ x) end ∙ append-nil done) ∙ out_text_is got now done p in
+      let low : length (replies (start w) (ended (take m done))) ≤ length first =
+      subst (λ x. length (replies (start w) (ended (take m done))) ≤ length (replies (start w) (ended x))) (take-append-drop m done) (replies_shorter (take m done) (drop m done)) in
       record {
         part = (
           length first + q.0,
@@ -135,9 +134,9 @@ module _ (rs : List PlainStatement) where
       }
 
   -- what the last call answered
-  pub served_end : (r : Result (Unit {0}) ServeFault) (left l1 l2 got got' : Option (List ℕ)) (rose : Type 0) (now : Kept) (n : ℕ) (done : List ℕ) → Progress rs left l1 got now n done → n < 2 ^ 60
+  pub served_end : (r : Result (Unit {0}) ServeFault) (left l1 l2 got got' : Option (List ℕ)) (rose : Type 0) (now : Kept) (n : ℕ) (done : List ℕ) → Progress w left l1 got now n done → n < 2 ^ 60
       → Takes l1 l2 [] → IsAtEnd l2 → OnOk r (Gives now.got got' (tail now.state now.part)) → OnErr r (GivesPart now.got got' (tail now.state now.part))
-      → (IsErrOf r Read → ⊥) → (IsErrOf r TooLong → ⊥) → Served rs r left l2 got got' rose done
+      → (IsErrOf r Read → ⊥) → (IsErrOf r TooLong → ⊥) → Served w r left l2 got got' rose done
   served_end (Ok x) left l1 l2 got got' rose now n done p lt t end ok err no_read no_long = record {
     takes = takes_none left l1 l2 done p.takes t;
     ends = (omega (arith, p.count), end, gives_more got now.got got' _ _ _ p.feeds.got ok (sym (out_text_is got now done p.feeds)));
@@ -154,33 +153,46 @@ module _ (rs : List PlainStatement) where
   }
 
   -- the loop ended at its limit
-  pub served_long : (left l1 got : Option (List ℕ)) (rose : Type 0) (now : Kept) (n : ℕ) (done : List ℕ) → Progress rs left l1 got now n done → 2 ^ 60 ≤ n → Served rs (Err TooLong) left l1 got now.got rose done
+  pub served_long : (left l1 got : Option (List ℕ)) (rose : Type 0) (now : Kept) (n : ℕ) (done : List ℕ) → Progress w left l1 got now n done → 2 ^ 60 ≤ n → Served w (Err TooLong) left l1 got now.got rose done
   served_long left l1 got rose now n done p le = record {
     takes = p.takes;
     ends = (omega (arith, p.count), part_whole left l1 got now n done p, inr p.feeds.got);
   }
 
   -- the last piece was taken too
-  takes_part : (left l1 l2 got : Option (List ℕ)) (now : Kept) (n : ℕ) (done piece : List ℕ) → Progress rs left l1 got now n done → Takes l1 l2 piece → Takes left l2 (done ++ piece)
+  takes_part : (left l1 l2 got : Option (List ℕ)) (now : Kept) (n : ℕ) (done piece : List ℕ) → Progress w left l1 got now n done → Takes l1 l2 piece → Takes left l2 (done ++ piece)
   takes_part left l1 l2 got now n done piece p t = takes_more left l1 l2 done piece (done ++ piece) p.takes t refl
 
-  -- ---- with the session
+  -- ---- with the session and the reader
 
-  pub reached_more : (left l1 l2 got : Option (List ℕ)) (a b : Session) (p q : List ℕ) (g h : Option (List ℕ)) (n k : ℕ) (done piece : List ℕ) → Reached rs left l1 got a p g n done
-      → Takes l1 l2 piece → length piece ≡ k → ((s : State) → StandsFor a s → FedTo (record { state = s; part = p; got = g }) b q h piece) → Reached rs left l2 got b q h (n + k) (done ++ piece)
+  pub reached_more : (left l1 l2 got : Option (List ℕ)) (a b : Session) (p q : LineReader) (g h : Option (List ℕ)) (n k : ℕ) (done piece : List ℕ) → Reached w left l1 got a p g n done
+      → Takes l1 l2 piece → length piece ≡ k → ((s : State) (part : List ℕ) → Between a p s part → FedTo (record { state = s; part = part; got = g }) b q h piece) → Reached w left l2 got b q h (n + k) (done ++ piece)
   reached_more left l1 l2 got a b p q g h n k done piece r t len more =
-      let m = more r.reached r.stands in
-      record { reached = m.reached; stands = m.stands; progress = progress_more left l1 l2 got _ _ n k done piece r.progress t len m.feeds }
+      let m = more r.reached r.rest r.between in
+      record { reached = m.reached; rest = m.rest; between = m.between; progress = progress_more left l1 l2 got _ _ n k done piece r.progress t len m.feeds }
 
-  pub reached_count : (left l1 got : Option (List ℕ)) (session : Session) (part : List ℕ) (sent : Option (List ℕ)) (n : ℕ) (done : List ℕ) → Reached rs left l1 got session part sent n done → session.count ≤ n
-  reached_count left l1 got session part sent n done r = omega (arith, progress_count left l1 got _ n done r.progress, r.stands.same_count)
+  pub reached_count : (left l1 got : Option (List ℕ)) (session : Session) (reader : LineReader) (sent : Option (List ℕ)) (n : ℕ) (done : List ℕ) → (r : Reached w left l1 got session reader sent n done) → r.reached.count ≤ n
+  reached_count left l1 got session reader sent n done r = progress_count left l1 got _ n done r.progress
 
   -- a first part of the last piece's replies went out
-  pub reached_part : (left l1 l2 got got' : Option (List ℕ)) (session : Session) (part : List ℕ) (sent : Option (List ℕ)) (n : ℕ) (done piece : List ℕ) → Reached rs left l1 got session part sent n done
-      → length piece ≤ 8192 → ((s : State) → StandsFor session s → FeedsPart (record { state = s; part = part; got = sent }) got' piece) → PartOf rs l2 got got' (done ++ piece)
-  reached_part left l1 l2 got got' session part sent n done piece r small more = part_feeding left l1 l2 got got' _ n done piece r.progress small (more r.reached r.stands)
+  pub reached_part : (left l1 l2 got got' : Option (List ℕ)) (session : Session) (reader : LineReader) (sent : Option (List ℕ)) (n : ℕ) (done piece : List ℕ) → Reached w left l1 got session reader sent n done
+      → length piece ≤ 8192 → ((s : State) (part : List ℕ) → Between session reader s part → FeedsPart (record { state = s; part = part; got = sent }) got' piece) → PartOf w l2 got got' (done ++ piece)
+  reached_part left l1 l2 got got' session reader sent n done piece r small more = part_feeding left l1 l2 got got' _ n done piece r.progress small (more r.reached r.rest r.between)
 
   -- the last piece was taken too
-  pub reached_takes : (left l1 l2 got : Option (List ℕ)) (session : Session) (part : List ℕ) (sent : Option (List ℕ)) (n : ℕ) (done piece : List ℕ) → Reached rs left l1 got session part sent n done
+  pub reached_takes : (left l1 l2 got : Option (List ℕ)) (session : Session) (reader : LineReader) (sent : Option (List ℕ)) (n : ℕ) (done piece : List ℕ) → Reached w left l1 got session reader sent n done
       → Takes l1 l2 piece → Takes left l2 (done ++ piece)
-  reached_takes left l1 l2 got session part sent n done piece r t = takes_part left l1 l2 got _ n done piece r.progress t
+  reached_takes left l1 l2 got session reader sent n done piece r t = takes_part left l1 l2 got _ n done piece r.progress t
+
+  -- before the first piece
+  pub reached_none : (left got : Option (List ℕ)) (session : Session) (reader : LineReader) → Between session reader (start w) [] → Reached w left left got session reader got 0 []
+  reached_none left got session reader b = record {
+    reached = start w;
+    rest = [];
+    between = b;
+    progress = record {
+      takes = sym (prepend_known-nil left);
+      feeds = feeds_none (begin w got);
+      count = refl;
+    };
+  }

@@ -1,5 +1,5 @@
 -- What a run over the lines says of the output, where the source tells its bytes.
-use Rattle.std.proofs.Common.{◌≡◌, ℕ, ◌+◌, ◌-◌, ◌≤◌, List, [], ◌++◌, Option, Some, None, Result, Ok, Err, length, take, drop, refl, sym, ap, ◌∙◌, subst, arith, inl, inr, append-nil, length-append}
+use Rattle.std.proofs.Common.{◌≡◌, ℕ, ◌+◌, ◌-◌, ◌≤◌, ◌<◌, ◌^◌, List, [], ◌++◌, Option, Some, None, Result, Ok, Err, length, take, drop, refl, sym, ap, ◌∙◌, subst, arith, inl, inr, append-nil, length-append}
 use Rattle.std.specs.Prelude.{IfSome, ◌⊎◌}
 use Rattle.std.proofs.lemmas.List.{take-append-le, take_all, take-append-drop}
 use Rattle.std.specs.Io.KnownBytes.{append_known}
@@ -7,45 +7,47 @@ use Rattle.flow_ports.specs.Flow.{Gives}
 use Rattle.flow_ports.proofs.FlowLemmas.{append_known-nil}
 use Rattle.ev_term.specs.Lines.{ended}
 use Rattle.rule_ast.specs.Trees.{PlainStatement}
-use Rattle.etalis_cli.specs.Output.{start, replies, out_text}
-use Rattle.etalis_cli.specs.Outcome.{Served}
+use Rattle.etalis_cli.specs.Output.{Setting, start, replies, out_text}
+use Rattle.etalis_cli.specs.Outcome.{Served, Ends}
+use Rattle.etalis_cli.specs.Words.{PlainJob}
 use Rattle.etalis_cli.specs.Rules.{Accepted, IsRefused, HasNone}
 use Rattle.etalis_cli.specs.declared.refusals.Refusal.{Refusal}
-use Rattle.etalis_cli.specs.Run.{PartFor, OnRules, file_of, status_of, IsServeCause}
+use Rattle.etalis_cli.specs.Run.{PartFor, OnRules, file_of, late_of, status_of, IsServeCause, IsComplete}
 use Rattle.etalis_cli.specs.declared.serving.ServeFault.{ServeFault}
 use Rattle.etalis_cli.specs.declared.serving.ServeFault.TheVariants as fault
+use Rattle.etalis_cli.specs.declared.status.Status.{Status}
 use Rattle.etalis_cli.specs.declared.status.Status.TheVariants as status
 use Rattle.etalis_cli.specs.declared.status.Cause.{Cause}
 use Rattle.etalis_cli.specs.declared.status.Cause.TheVariants.{Done, Usage, RulesRefused, RulesUnread, InputUnread, WriteFault, Memory, TooLong}
 use Rattle.etalis_cli.proofs.RuleLaws.{same_Some, one_acceptance}
 use Rattle.etalis_cli.proofs.ServeLaws.{out_begins, replies_shorter}
 
-module _ (rs : List PlainStatement) where
+module _ (w : Setting) where
   -- the replies to the lines of a first part are no longer than those to all
-  shorter : (m : ℕ) (xs : List ℕ) → length (replies (start rs) (ended (take m xs))) ≤ length (replies (start rs) (ended xs))
-  shorter m xs = subst (λ x. length (replies (start rs) (ended (take m xs))) ≤ length (replies (start rs) (ended x))) (take-append-drop m xs) (replies_shorter rs (take m xs) (drop m xs))
+  shorter : (m : ℕ) (xs : List ℕ) → length (replies (start w) (ended (take m xs))) ≤ length (replies (start w) (ended xs))
+  shorter m xs = subst (λ x. length (replies (start w) (ended (take m xs))) ≤ length (replies (start w) (ended x))) (take-append-drop m xs) (replies_shorter w (take m xs) (drop m xs))
 
   -- a first part of what is written, with enough replies
-  sent_whole : (got got' : Option (List ℕ)) (done ys : List ℕ) → Gives got got' (replies (start rs) (ended done))
-      → (n : ℕ) × Gives got got' (take n (out_text rs (done ++ ys))) × (length (replies (start rs) (ended (take (length done - 8192) done))) ≤ n)
+  sent_whole : (got got' : Option (List ℕ)) (done ys : List ℕ) → Gives got got' (replies (start w) (ended done))
+      → (n : ℕ) × Gives got got' (take n (out_text w (done ++ ys))) × (length (replies (start w) (ended (take (length done - 8192) done))) ≤ n)
   sent_whole got got' done ys sent =
-      let (t, begins) = out_begins rs done ys in
-      let all : List ℕ = replies (start rs) (ended done) in
+      let (t, begins) = out_begins w done ys in
+      let all : List ℕ = replies (start w) (ended done) in
       let le : length all ≤ length all = omega arith in
       (length all, sent ∙ ap (append_known got) (sym (take_all (length all) all le) ∙ sym (take-append-le (length all) all t le) ∙ ap (take (length all)) (sym begins)), shorter _ done)
 
-  sent_all : (got got' : Option (List ℕ)) (done ys : List ℕ) → ys ≡ [] → Gives got got' (out_text rs done)
-      → (n : ℕ) × Gives got got' (take n (out_text rs (done ++ ys))) × (length (replies (start rs) (ended (take (length done - 8192) done))) ≤ n)
+  sent_all : (got got' : Option (List ℕ)) (done ys : List ℕ) → ys ≡ [] → Gives got got' (out_text w done)
+      → (n : ℕ) × Gives got got' (take n (out_text w (done ++ ys))) × (length (replies (start w) (ended (take (length done - 8192) done))) ≤ n)
   sent_all got got' done ys end sent =
       let whole : done ++ ys ≡ done = ap (λ x. done ++ x) end ∙ append-nil done in
-      let (t, begins) = out_begins rs done [] in
-      let all : List ℕ = out_text rs done in
+      let (t, begins) = out_begins w done [] in
+      let all : List ℕ = out_text w done in
       let le : length all ≤ length all = omega arith in
-      let len : length all ≡ length (replies (start rs) (ended done)) + length t = ap length (ap (out_text rs) (sym (append-nil done)) ∙ begins) ∙ length-append (replies (start rs) (ended done)) t in
-      (length all, sent ∙ ap (append_known got) (sym (take_all (length all) all le) ∙ ap (λ x. take (length all) (out_text rs x)) (sym whole)), omega (arith, shorter (length done - 8192) done, len))
+      let len : length all ≡ length (replies (start w) (ended done)) + length t = ap length (ap (out_text w) (sym (append-nil done)) ∙ begins) ∙ length-append (replies (start w) (ended done)) t in
+      (length all, sent ∙ ap (append_known got) (sym (take_all (length all) all le) ∙ ap (λ x. take (length all) (out_text w x)) (sym whole)), omega (arith, shorter (length done - 8192) done, len))
 
-  sent_part : (r : Result (Unit {0}) ServeFault) (left got got' : Option (List ℕ)) (rose : Type 0) (done ys : List ℕ) → Served rs r left (Some ys) got got' rose done
-      → (n : ℕ) × Gives got got' (take n (out_text rs (done ++ ys))) × (length (replies (start rs) (ended (take (length done - 8192) done))) ≤ n)
+  sent_part : (r : Result (Unit {0}) ServeFault) (left got got' : Option (List ℕ)) (rose : Type 0) (done ys : List ℕ) → Served w r left (Some ys) got got' rose done
+      → (n : ℕ) × Gives got got' (take n (out_text w (done ++ ys))) × (length (replies (start w) (ended (take (length done - 8192) done))) ≤ n)
   sent_part (Ok x) left got got' rose done ys s = sent_all got got' done ys s.ends.1 s.ends.2
   sent_part (Err fault.Read) left got got' rose done ys s = sent_whole got got' done ys s.ends.1
   sent_part (Err fault.Write) left got got' rose done ys s = s.ends.1.part
@@ -59,44 +61,53 @@ module _ (rs : List PlainStatement) where
       let le : length done - 8192 ≤ length done = omega arith in
       (omega (arith, len), ap (take (length done - 8192)) e ∙ take-append-le (length done - 8192) done ys le)
 
-  pub part_for : (r : Result (Unit {0}) ServeFault) (left left' got got' : Option (List ℕ)) (rose : Type 0) (done : List ℕ) → Served rs r left left' got got' rose done → PartFor rs left left' got got'
+  pub part_for : (r : Result (Unit {0}) ServeFault) (left left' got got' : Option (List ℕ)) (rose : Type 0) (done : List ℕ) → Served w r left left' got got' rose done → PartFor w left left' got got'
   part_for r None left' got got' rose done s = tt
   part_for r (Some xs) None got got' rose done s = tt
   part_for r (Some xs) (Some ys) got got' rose done s =
       let e : xs ≡ done ++ ys = same_Some _ _ s.takes in
       let (count, front) = taken_is xs ys done e in
       let (n, sent, enough) = sent_part r (Some xs) got got' rose done ys s in
-      (n, sent ∙ ap (λ x. append_known got (take n (out_text rs x))) (sym e), rw (count, front) enough)
+      (n, sent ∙ ap (λ x. append_known got (take n (out_text w x))) (sym e), rw (count, front) enough)
+
+  -- a run that ended at the limit had that many bytes before it
+  pub long_input : (r : Result (Unit {0}) ServeFault) (left left' got got' : Option (List ℕ)) (rose : Type 0) (done : List ℕ) → Served w r left left' got got' rose done → r ≡ Err fault.TooLong → IfSome left (λ bytes. 2 ^ 60 ≤ length bytes)
+  long_input r None left' got got' rose done s e = tt
+  long_input r (Some xs) None got got' rose done s e = absurd (let f = s.takes in cc)
+  long_input r (Some xs) (Some ys) got got' rose done s e =
+      let long : 2 ^ 60 ≤ length done = (subst (λ x. Ends w x (Some ys) got got' rose done) e s.ends).0 in
+      let whole : xs ≡ done ++ ys = same_Some _ _ s.takes in
+      omega (arith, long, ap length whole, length-append done ys)
 
 -- ---- the rules of the file
 
-on_rules : (file : Option (List ℕ)) (rs : List PlainStatement) (P : List PlainStatement → Type 0) → IfSome file (λ f. Accepted f rs) → P rs → OnRules file P
-on_rules None rs P accepted p = tt
-on_rules (Some f) rs P accepted p = λ other a. subst P (one_acceptance f rs other accepted a) p
+on_rules : (file : Option (List ℕ)) (late : Option ℕ) (rs : List PlainStatement) (P : Setting → Type 0) → IfSome file (λ f. Accepted f rs) → P (record { rules = rs; late = late }) → OnRules file late P
+on_rules None late rs P accepted p = tt
+on_rules (Some f) late rs P accepted p = λ other a. subst (λ r. P (record { rules = r; late = late })) (one_acceptance f rs other accepted a) p
 
-any_rules : (file : Option (List ℕ)) (P : List PlainStatement → Type 0) → ((rs : List PlainStatement) → P rs) → OnRules file P
-any_rules None P p = tt
-any_rules (Some f) P p = λ rs accepted. p rs
+any_rules : (file : Option (List ℕ)) (late : Option ℕ) (P : Setting → Type 0) → ((w : Setting) → P w) → OnRules file late P
+any_rules None late P p = tt
+any_rules (Some f) late P p = λ rs accepted. p (record { rules = rs; late = late })
 
 -- what holds of the rules that were read
-pub on_read : (asked : Option (List ℕ)) (name : List ℕ) (holds : List ℕ → Option (List ℕ)) (rs : List PlainStatement) (P : List PlainStatement → Type 0) → asked ≡ Some name
-    → IfSome (holds name) (λ f. Accepted f rs) → P rs → OnRules (file_of asked holds) P
-on_read asked name holds rs P e accepted p = subst (λ o. OnRules (file_of o holds) P) (sym e) (on_rules (holds name) rs P accepted p)
+pub on_read : (asked : Option PlainJob) (job : PlainJob) (holds : List ℕ → Option (List ℕ)) (rs : List PlainStatement) (P : Setting → Type 0) → asked ≡ Some job
+    → IfSome (holds job.rules) (λ f. Accepted f rs) → P (record { rules = rs; late = job.late }) → OnRules (file_of asked holds) (late_of asked) P
+on_read asked job holds rs P e accepted p = subst (λ o. OnRules (file_of o holds) (late_of o) P) (sym e) (on_rules (holds job.rules) job.late rs P accepted p)
 
-pub long_on_read : (asked : Option (List ℕ)) (name : List ℕ) (holds : List ℕ → Option (List ℕ)) (rs : List PlainStatement) (Q : Type 0) (P : List PlainStatement → Type 0) → asked ≡ Some name
-    → IfSome (holds name) (λ f. Accepted f rs) → Q ⊎ P rs → Q ⊎ OnRules (file_of asked holds) P
-long_on_read asked name holds rs Q P e accepted (inl q) = inl q
-long_on_read asked name holds rs Q P e accepted (inr p) = inr (on_read asked name holds rs P e accepted p)
+pub long_on_read : (asked : Option PlainJob) (job : PlainJob) (holds : List ℕ → Option (List ℕ)) (rs : List PlainStatement) (Q : Type 0) (P : Setting → Type 0) → asked ≡ Some job
+    → IfSome (holds job.rules) (λ f. Accepted f rs) → Q ⊎ P (record { rules = rs; late = job.late }) → Q ⊎ OnRules (file_of asked holds) (late_of asked) P
+long_on_read asked job holds rs Q P e accepted (inl q) = inl q
+long_on_read asked job holds rs Q P e accepted (inr p) = inr (on_read asked job holds rs P e accepted p)
 
 -- nothing was taken, and nothing went out
-none_sent : (rs : List PlainStatement) (left got : Option (List ℕ)) → PartFor rs left left got got
-none_sent rs None got = tt
-none_sent rs (Some xs) got =
+none_sent : (w : Setting) (left got : Option (List ℕ)) → PartFor w left left got got
+none_sent w None got = tt
+none_sent w (Some xs) got =
     let none : length xs - length xs - 8192 ≡ 0 = omega arith in
-    (0, sym (append_known-nil got), subst (λ n. length (replies (start rs) (ended (take n xs))) ≤ 0) (sym none) (omega arith))
+    (0, sym (append_known-nil got), subst (λ n. length (replies (start w) (ended (take n xs))) ≤ 0) (sym none) (omega arith))
 
-pub none_for : (file left got : Option (List ℕ)) → OnRules file (λ rs. PartFor rs left left got got)
-none_for file left got = any_rules file (λ rs. PartFor rs left left got got) (λ rs. none_sent rs left got)
+pub none_for : (file : Option (List ℕ)) (late : Option ℕ) (left got : Option (List ℕ)) → OnRules file late (λ w. PartFor w left left got got)
+none_for file late left got = any_rules file late (λ w. PartFor w left left got got) (λ w. none_sent w left got)
 
 -- a file that was read and refused
 pub refused_read : (held : Option (List ℕ)) (bytes slice : List ℕ) → IfSome held (λ f. bytes ≡ f) → slice ≡ bytes → (cause : Refusal) → IsRefused slice cause × HasNone slice
@@ -135,3 +146,29 @@ long_cause InputUnread e = cc
 long_cause WriteFault e = cc
 long_cause Memory e = cc
 long_cause TooLong e = refl
+
+-- ---- completeness
+
+pub complete : (s : Status) (asked : Option PlainJob) (holds : List ℕ → Option (List ℕ)) (left : Option (List ℕ)) (shelf input out : Type 0)
+    → (s ≡ status.Usage → asked ≡ None) → (s ≡ status.RulesRefused → IfSome (file_of asked holds) HasNone) → (s ≡ status.ReadFault → shelf ⊎ input) → (s ≡ status.WriteFault → out)
+    → (s ≡ status.TooLong → IfSome left (λ bytes. 2 ^ 60 ≤ length bytes)) → IsComplete s (file_of asked holds) left shelf input out
+complete s None holds left shelf input out usage refused read write long = tt
+complete s (Some job) holds left shelf input out usage refused read write long = at (holds job.rules) refused left long
+  where
+    at : (file : Option (List ℕ)) → (s ≡ status.RulesRefused → IfSome file HasNone) → (left : Option (List ℕ)) → (s ≡ status.TooLong → IfSome left (λ bytes. 2 ^ 60 ≤ length bytes)) → IsComplete s file left shelf input out
+    at None refused left long = tt
+    at (Some f) refused None long = λ accepted. tt
+    at (Some f) refused (Some bytes) long = λ accepted few no_shelf no_input no_out. by s refl
+      where
+        by : (t : Status) → s ≡ t → (s ≡ status.Done) ⊎ (s ≡ status.Memory)
+        by status.Done e = inl e
+        by status.Usage e = absurd (let u = usage e in cc)
+        by status.RulesRefused e = absurd (refused e accepted.0 accepted.1)
+        by status.ReadFault e = absurd (neither (read e))
+          where
+            neither : shelf ⊎ input → ⊥
+            neither (inl p) = no_shelf p
+            neither (inr p) = no_input p
+        by status.WriteFault e = absurd (no_out (write e))
+        by status.Memory e = inr e
+        by status.TooLong e = absurd (let l = long e in omega (arith, l, few))

@@ -2,7 +2,11 @@
 use Rattle.std.specs.Prelude.{◌≡◌, ℕ, List, Option}
 use Rattle.flow_ports.specs.Flow.{Gives, GivesPart}
 use Rattle.ev_term.specs.Lines.{ended_from, rest_from}
-use Rattle.etalis_cli.specs.Output.{State, after, replies}
+use Rattle.line_reader.specs.Cutting.{NoFeed}
+use Rattle.line_reader.specs.Holding.{Holds}
+use Rattle.line_reader.specs.declared.reading.LineReader.{LineReader}
+use Rattle.pattern_meaning.specs.Replies.{State}
+use Rattle.etalis_cli.specs.Output.{after, replies}
 use Rattle.etalis_cli.specs.StandsFor.{StandsFor}
 use Rattle.etalis_cli.specs.declared.session.Session.{Session}
 
@@ -18,10 +22,17 @@ pub record Feeds (old new : Kept) (piece : List ℕ) : Type 0 where
   pub part : new.part ≡ rest_from old.part piece
   pub got : Gives old.got new.got (replies old.state (ended_from old.part piece))
 
--- the same, where the session stands for the state that was reached
-pub record FedTo (old : Kept) (session : Session) (rest : List ℕ) (sent : Option (List ℕ)) (piece : List ℕ) : Type 0 where
+-- the reader holds this part of a line, and the session stands for this state
+pub record Between (session : Session) (reader : LineReader) (s : State) (part : List ℕ) : Type 0 where
+  pub stands : StandsFor session s
+  pub holds : Holds reader part
+  pub open : NoFeed part
+
+-- the piece was taken, and the session and the reader stand for what was reached
+pub record FedTo (old : Kept) (session : Session) (reader : LineReader) (sent : Option (List ℕ)) (piece : List ℕ) : Type 0 where
   pub reached : State
-  pub stands : StandsFor session reached
+  pub rest : List ℕ
+  pub between : Between session reader reached rest
   pub feeds : Feeds old (record { state = reached; part = rest; got = sent }) piece
 
 -- some first part of these replies went out

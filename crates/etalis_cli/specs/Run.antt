@@ -5,8 +5,9 @@ use Rattle.std.specs.declared.alloc.Global.{Global}
 use Rattle.flow_ports.specs.Flow.{Gives, GivesPart}
 use Rattle.ev_term.specs.Lines.{ended}
 use Rattle.rule_ast.specs.Trees.{PlainStatement}
-use Rattle.etalis_cli.specs.Output.{start, replies, out_text}
-use Rattle.etalis_cli.specs.Rules.{Accepted, IsRefused, refusal_note}
+use Rattle.etalis_cli.specs.Output.{Setting, start, replies, out_text}
+use Rattle.etalis_cli.specs.Words.{PlainJob}
+use Rattle.etalis_cli.specs.Rules.{Accepted, IsAccepted, IsRefused, refusal_note}
 use Rattle.etalis_cli.specs.declared.refusals.Refusal.{Refusal}
 use Rattle.etalis_cli.specs.declared.serving.ServeFault.{ServeFault}
 use Rattle.etalis_cli.specs.declared.serving.ServeFault.TheVariants as fault
@@ -15,32 +16,24 @@ use Rattle.etalis_cli.specs.declared.status.Status.TheVariants as status
 use Rattle.etalis_cli.specs.declared.status.Cause.{Cause}
 use Rattle.etalis_cli.specs.declared.status.Cause.TheVariants.{Done, Usage, RulesRefused, RulesUnread, InputUnread, WriteFault, Memory, TooLong}
 
--- a name of a file: it doesn't begin with a dash, unless it is a dash alone
-abbrev pub is_name : List ℕ → Bool
-is_name [] = true
-is_name (b ∷ []) = true
-is_name (b ∷ c ∷ more) = not (b == 45)
-
--- the name of the rule file, where the words are in form
-abbrev pub form : List (String Global) → Option (List ℕ)
-form [] = None
-form (mode ∷ []) = None
-form (mode ∷ name ∷ []) = if bytes_eq (string_bytes mode) (codes "run") && is_name (string_bytes name) then Some (string_bytes name) else None
-form (mode ∷ name ∷ word ∷ words) = None
-
 -- what the file of that form holds, where told
-abbrev pub file_of : Option (List ℕ) → (List ℕ → Option (List ℕ)) → Option (List ℕ)
+abbrev pub file_of : Option PlainJob → (List ℕ → Option (List ℕ)) → Option (List ℕ)
 file_of None holds = None
-file_of (Some name) holds = holds name
+file_of (Some job) holds = holds job.rules
+
+-- how late an event may come by that form
+abbrev pub late_of : Option PlainJob → Option ℕ
+late_of None = None
+late_of (Some job) = job.late
 
 -- the file of that form may be asked for
-abbrev pub MayAsk : Option (List ℕ) → (List ℕ → Bool) → Type 0
+abbrev pub MayAsk : Option PlainJob → (List ℕ → Bool) → Type 0
 MayAsk None serves = ⊤
-MayAsk (Some name) serves = serves name ≡ true
+MayAsk (Some job) serves = serves job.rules ≡ true
 
--- P holds of the rules that the file is accepted as, where it is told and accepted
-abbrev pub OnRules : Option (List ℕ) → (List PlainStatement → Type 0) → Type 0
-OnRules file P = IfSome file (λ f. (rules : List PlainStatement) → Accepted f rules → P rules)
+-- P holds of the rules that the file is accepted as and of the lateness, where the file is told and accepted
+abbrev pub OnRules : Option (List ℕ) → Option ℕ → (Setting → Type 0) → Type 0
+OnRules file late P = IfSome file (λ f. (rules : List PlainStatement) → Accepted f rules → P (record { rules = rules; late = late }))
 
 -- P holds of the bytes that were taken, where they are told
 abbrev pub OnTaken : Option (List ℕ) → Option (List ℕ) → (List ℕ → Type 0) → Type 0
@@ -59,11 +52,15 @@ WasServed status.ReadFault = ⊥
 WasServed status.Memory = ⊥
 
 -- A first part of the whole output went out, with the replies to all lines whose line feed is among the bytes taken but the last 8192.
-abbrev pub PartFor : List PlainStatement → Option (List ℕ) → Option (List ℕ) → Option (List ℕ) → Option (List ℕ) → Type 0
-PartFor rs None left' got got' = ⊤
-PartFor rs (Some xs) None got got' = ⊤
-PartFor rs (Some xs) (Some ys) got got' = (n : ℕ) × Gives got got' (take n (out_text rs xs))
-    × (length (replies (start rs) (ended (take (length xs - length ys - 8192) xs))) ≤ n)
+abbrev pub PartFor : Setting → Option (List ℕ) → Option (List ℕ) → Option (List ℕ) → Option (List ℕ) → Type 0
+PartFor w None left' got got' = ⊤
+PartFor w (Some xs) None got got' = ⊤
+PartFor w (Some xs) (Some ys) got got' = (n : ℕ) × Gives got got' (take n (out_text w xs))
+    × (length (replies (start w) (ended (take (length xs - length ys - 8192) xs))) ≤ n)
+
+-- A file that is told and accepted, with fewer than 2^60 bytes of input, and no count that rose, gives `Done`, unless memory fails.
+abbrev pub IsComplete : Status → Option (List ℕ) → Option (List ℕ) → Type 0 → Type 0 → Type 0 → Type 0
+IsComplete s file left shelf input out = IfSome file (λ f. IsAccepted f → IfSome left (λ bytes. length bytes < 2 ^ 60 → ¬ shelf → ¬ input → ¬ out → (s ≡ status.Done) ⊎ (s ≡ status.Memory)))
 
 -- the cause that a run over the lines ends with
 abbrev pub cause_of : Result (Unit {0}) ServeFault → Cause

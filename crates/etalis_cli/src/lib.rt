@@ -2,18 +2,19 @@
 #![tactic(auto)]
 
 mod accepting;
-mod changes;
 mod feeding;
 mod notes;
 mod refusals;
-mod replies;
+mod replying;
 mod serving;
 mod session;
 mod status;
 mod top;
+mod words;
 
 pub use accepting::files_have_one_meaning;
 pub use serving::{ServeFault, serve};
 pub use session::Session;
 pub use status::Status;
 pub use top::run;
+pub use words::{Job, Mode, WordsFault, run_words};

@@ -1,15 +1,17 @@
 // The lines of a source, to their replies.
 ghost use Rattle.std.specs.Prelude.{◌≡◌, ◌^◌, ◌<◌, ◌≤◌, ℕ, List, OnOk, OnErr, IsErrOf};
 ghost use Rattle.flow_ports.specs.Flow.{Rose, Gives, GivesPart};
-ghost use Rattle.rule_ast.specs.Plain.{plain_rules};
-ghost use Rattle.etalis_cli.specs.Output.{State, start};
-ghost use Rattle.etalis_cli.specs.StandsFor.{StandsFor};
+ghost use Rattle.pattern_meaning.specs.Replies.{State};
+ghost use Rattle.etalis_cli.specs.Output.{start};
+ghost use Rattle.etalis_cli.specs.StandsFor.{StandsFor, setting_of};
+ghost use Rattle.etalis_cli.specs.Feeds.{Between};
 ghost use Rattle.etalis_cli.specs.Outcome.{Served, tail};
 
-use crate::feeding::{FeedFault, feed, without_cr};
-use crate::replies::end_text;
+use crate::feeding::{FeedFault, feed};
 use crate::session::Session;
+use detect_writer::end_text;
 use flow_ports::{Sink, Source, write_whole};
+use line_reader::LineReader;
 use std::alloc::{AllocError, Global};
 use thiserror::Error;
 
@@ -31,37 +33,41 @@ const CHUNK: usize = 8192;
 const LIMIT: u64 = 1 << 60;
 
 // The reply to a last line without a line feed, and the end.
-fn last_text(session: &mut Session, part: &[u8], text: &mut Vec<u8>) -> Result<(), AllocError>
-    requires { session.old.count < 2 ^ 62 }
-    ensures { (s : State) → StandsFor session.old s → OnOk result (text.new.items ≡ tail s part.now) }
+fn last_text(
+    session: &mut Session,
+    reader: &mut LineReader,
+    text: &mut Vec<u8>,
+) -> Result<(), AllocError>
+    requires { (s : State) × (part : List ℕ) × Between session.old reader.old s part × (s.count < 2 ^ 62) }
+    ensures { (s : State) (part : List ℕ) → Between session.old reader.old s part
+        → OnOk result (text.new.items ≡ tail s part) }
 {
     text.clear();
-    if part.is_empty() {
-        return end_text(session.count(), text);
+    if let Some(line) = reader.finish() {
+        session.answer(line, text)?;
     }
-    session.answer(without_cr(part), text)?;
     end_text(session.count(), text)
 }
 
 // Writes what stands behind the replies to all lines that a line feed ends.
 fn finish<O: Sink>(
     session: &mut Session,
-    part: &[u8],
+    reader: &mut LineReader,
     text: &mut Vec<u8>,
     out: &mut O,
 ) -> Result<(), ServeFault>
-    requires { session.old.count < 2 ^ 62 }
-    ensures ok { (s : State) → StandsFor session.old s
-        → OnOk result (Gives (O.got out.old) (O.got out.new) (tail s part.now)) }
-    ensures err { (s : State) → StandsFor session.old s
-        → OnErr result (GivesPart (O.got out.old) (O.got out.new) (tail s part.now)) }
+    requires { (s : State) × (part : List ℕ) × Between session.old reader.old s part × (s.count < 2 ^ 62) }
+    ensures ok { (s : State) (part : List ℕ) → Between session.old reader.old s part
+        → OnOk result (Gives (O.got out.old) (O.got out.new) (tail s part)) }
+    ensures err { (s : State) (part : List ℕ) → Between session.old reader.old s part
+        → OnErr result (GivesPart (O.got out.old) (O.got out.new) (tail s part)) }
     ensures write { IsErrOf result ServeFault.Write → Rose (O.faults out.old) (O.faults out.new) }
     ensures memory { IsErrOf result ServeFault.Memory → O.faults out.new ≡ O.faults out.old }
     ensures count { OnOk result (O.faults out.new ≡ O.faults out.old) }
     ensures read { IsErrOf result ServeFault.Read → ⊥ }
     ensures too_long { IsErrOf result ServeFault.TooLong → ⊥ }
 {
-    match last_text(session, part, text) {
+    match last_text(session, reader, text) {
         Ok(()) => {}
         Err(_) => return Err(ServeFault::Memory),
     }
@@ -79,16 +85,16 @@ pub fn serve<I: Source, O: Sink>(
     input: &mut I,
     out: &mut O,
 ) -> Result<(), ServeFault>
-    requires { StandsFor session.old (start (plain_rules session.old.rules)) }
+    requires { StandsFor session.old (start (setting_of session.old)) }
     ensures served { (done : List ℕ)
-        × Served (plain_rules session.old.rules) result (I.left input.old) (I.left input.new)
+        × Served (setting_of session.old) result (I.left input.old) (I.left input.new)
         (O.got out.old) (O.got out.new) (Rose (O.faults out.old) (O.faults out.new)) done }
     ensures read { IsErrOf result ServeFault.Read → Rose (I.faults input.old) (I.faults input.new) }
     ensures write { IsErrOf result ServeFault.Write → Rose (O.faults out.old) (O.faults out.new) }
     ensures source_count { I.faults input.old ≤ I.faults input.new }
     ensures sink_count { O.faults out.old ≤ O.faults out.new }
 {
-    let mut part = Vec::new(alloc);
+    let mut reader = LineReader::new(alloc);
     let mut text = Vec::new(alloc);
     let mut buf = [0u8; CHUNK];
     let mut taken: u64 = 0;
@@ -98,10 +104,10 @@ pub fn serve<I: Source, O: Sink>(
             Err(_) => return Err(ServeFault::Read),
         };
         if n == 0 {
-            return finish(session, &part, &mut text, out);
+            return finish(session, &mut reader, &mut text, out);
         }
         taken += n as u64;
-        match feed(session, &mut part, &mut text, out, &buf[..n]) {
+        match feed(session, &mut reader, &mut text, out, &buf[..n]) {
             Ok(()) => {}
             Err(FeedFault::Memory) => return Err(ServeFault::Memory),
             Err(FeedFault::Write) => {

@@ -1,86 +1,62 @@
 // What is kept from line to line.
-ghost use Rattle.std.specs.Prelude.{◌≡◌, ◌+◌, ◌^◌, ◌<◌, ◌++◌, true, IfOk, OnOk};
-ghost use Rattle.ev_term.specs.EventOrder.{event_cmp, detection_cmp};
-ghost use Rattle.etalis_cli.specs.Rises.{rises};
+ghost use Rattle.std.specs.Prelude.{◌≡◌, ◌+◌, ◌^◌, ◌<◌, ◌++◌, ℕ, List, IfOk, IfSome, OnOk};
 
-use crate::changes::take_event;
-use crate::replies::{ok_text, unbuilt_text};
-use canonical_forms::read_event_line;
-use ev_term::{Detection, Event};
-use pattern_meaning::scratch;
+use crate::replying::reply_line;
+use etalis_core::Engine;
+use line_reader::Line;
 use rule_check::Checked;
 use std::alloc::{AllocError, Global};
 
-/// Rules, how many lines came, the events that are present, in order and each once, what
-/// stands over them, and room for work.
+/// An engine, and how many lines came.
 #[derive(Drop)]
 pub struct Session {
     alloc: Global,
-    rules: Checked,
+    engine: Engine,
     count: u64,
-    events: Vec<Event>,
-    standing: Vec<Detection>,
-    text: Vec<u8>,
-    ghost events_rise: { rises event_cmp events.items ≡ true },
-    ghost standing_rises: { rises detection_cmp standing.items ≡ true },
 }
 
 impl Session {
+    ghost use Rattle.ev_term.specs.Lines.{without_cr};
     ghost use Rattle.rule_ast.specs.Plain.{plain_rules};
-    ghost use Rattle.etalis_cli.specs.Output.{State, start, after_line, reply_to};
-    ghost use Rattle.etalis_cli.specs.StandsFor.{StandsFor};
+    ghost use Rattle.line_reader.specs.Cutting.{IsLine};
+    ghost use Rattle.pattern_meaning.specs.Replies.{State};
+    ghost use Rattle.etalis_cli.specs.Output.{start, after_line, reply_to};
+    ghost use Rattle.etalis_cli.specs.StandsFor.{StandsFor, setting_of};
 
-    /// Before the first line.
-    pub fn new(alloc: Global, rules: Checked) -> Result<Session, AllocError>
-        ensures { IfOk result (λ n. StandsFor n (start (plain_rules rules))) }
+    /// Before the first line. The lateness is in ticks, below 2^62.
+    pub fn new(alloc: Global, rules: Checked, late: Option<u64>) -> Result<Session, AllocError>
+        requires { IfSome late (λ l. l < 2 ^ 62) }
+        ensures start { IfOk result (λ n. StandsFor n (start record { rules = plain_rules rules; late = late })) }
+        ensures setting { IfOk result (λ n. setting_of n ≡ record { rules = plain_rules rules; late = late }) }
     {
-        let events = Vec::new(alloc);
-        let standing = scratch(alloc, &rules, &events)?;
-        Ok(Session {
-            alloc,
-            rules,
-            count: 0,
-            events,
-            standing,
-            text: Vec::new(alloc),
-        })
+        match Engine::new(alloc, rules, late) {
+            Ok(engine) => Ok(Session {
+                alloc,
+                engine,
+                count: 0,
+            }),
+            Err(_) => Err(AllocError),
+        }
     }
 
     /// How many lines came.
     pub fn count(&self) -> u64
-        ensures { result ≡ self.now.count }
+        ensures { (s : State) → StandsFor self.now s → result ≡ s.count }
     {
         self.count
     }
 
     /// Takes a line, and appends its reply. An `Err` may have taken a part of it, so no more lines
     /// should follow one.
-    pub fn answer(&mut self, line: &[u8], out: &mut Vec<u8>) -> Result<(), AllocError>
-        requires { self.old.count < 2 ^ 63 }
-        ensures reply { (s : State) → StandsFor self.old s
-            → OnOk result (out.new.items ≡ out.old.items ++ reply_to s line.now) }
-        ensures after { (s : State) → StandsFor self.old s
-            → OnOk result (StandsFor self.new (after_line s line.now)) }
-        ensures count { OnOk result (self.new.count ≡ self.old.count + 1) }
+    pub fn answer(&mut self, line: Line<'_>, out: &mut Vec<u8>) -> Result<(), AllocError>
+        requires { (s : State) × StandsFor self.old s × (s.count < 2 ^ 63) }
+        ensures reply { (s : State) (raw : List ℕ) → StandsFor self.old s → IsLine line raw
+            → OnOk result (out.new.items ≡ out.old.items ++ reply_to s (without_cr raw)) }
+        ensures after { (s : State) (raw : List ℕ) → StandsFor self.old s → IsLine line raw
+            → OnOk result (StandsFor self.new (after_line s (without_cr raw))) }
     {
         let number = self.count + 1;
-        let event = match read_event_line(self.alloc, line, &mut self.text)? {
-            Some(event) => event,
-            None => {
-                unbuilt_text(number, out)?;
-                self.count = number;
-                return Ok(());
-            }
-        };
-        take_event(
-            self.alloc,
-            &self.rules,
-            &mut self.events,
-            &mut self.standing,
-            event,
-            out,
-        )?;
-        ok_text(number, out)?;
+        reply_line(self.alloc, &mut self.engine, number, line, out)?;
         self.count = number;
         Ok(())
     }

@@ -6,7 +6,8 @@ ghost use Rattle.rule_ast.specs.Plain.{plain_rules};
 ghost use Rattle.etalis_cli.specs.Output.{start, replies, out_text};
 ghost use Rattle.etalis_cli.specs.Outcome.{Served};
 ghost use Rattle.etalis_cli.specs.Rules.{Accepted, IsAccepted, HasNone, IsRefused};
-ghost use Rattle.etalis_cli.specs.Run.{form, is_name, cause_of, status_of, IsNoteOf, IsServeCause, PartFor, file_of, MayAsk, OnRules, OnTaken, WasServed, RefusedAs};
+ghost use Rattle.etalis_cli.specs.Words.{form};
+ghost use Rattle.etalis_cli.specs.Run.{cause_of, status_of, IsNoteOf, IsServeCause, PartFor, file_of, late_of, MayAsk, OnRules, OnTaken, WasServed, RefusedAs, IsComplete};
 
 use crate::accepting::{AcceptFault, MOST_BYTES, accept};
 use crate::notes::tell;
@@ -14,34 +15,10 @@ use crate::refusals::Refusal;
 use crate::serving::{ServeFault, serve};
 use crate::session::Session;
 use crate::status::{Cause, Status};
+use crate::words::{WordsFault, run_words};
 use flow_ports::{Shelf, Sink, Source, WholeFault, read_whole};
 use rule_check::Checked;
 use std::alloc::Global;
-
-// The name of the rule file, where the words are in form.
-fn file_name(words: &[String]) -> Option<&str>
-    ensures { MatchOption result (form words.now ≡ None) (λ name. form words.now ≡ Some name.now) }
-{
-    match words {
-        [mode, name] => {
-            if mode.as_str() != "run" || !is_name(name.as_bytes()) {
-                return None;
-            }
-            Some(name.as_str())
-        }
-        _ => None,
-    }
-}
-
-// Whether a word can name a file.
-fn is_name(name: &[u8]) -> bool
-    ensures { result ≡ is_name name.now }
-{
-    match name {
-        [first, _, ..] => *first != b'-',
-        _ => true,
-    }
-}
 
 // Reads the rule file. An `Err` is the cause to end with.
 fn read_rules<S: Shelf>(alloc: Global, shelf: &mut S, name: &str) -> Result<Checked, Cause>
@@ -84,15 +61,17 @@ fn cause_of(outcome: Result<(), ServeFault>) -> Cause
 fn serve_rules<I: Source, O: Sink>(
     alloc: Global,
     rules: Checked,
+    late: Option<u64>,
     input: &mut I,
     out: &mut O,
 ) -> Result<(), ServeFault>
-    ensures served { (done : List ℕ) × Served (plain_rules rules) result (I.left input.old) (I.left input.new)
+    requires { IfSome late (λ l. l < 2 ^ 62) }
+    ensures served { (done : List ℕ) × Served record { rules = plain_rules rules; late = late } result (I.left input.old) (I.left input.new)
         (O.got out.old) (O.got out.new) (Rose (O.faults out.old) (O.faults out.new)) done }
     ensures read { IsErrOf result ServeFault.Read → Rose (I.faults input.old) (I.faults input.new) }
     ensures write { IsErrOf result ServeFault.Write → Rose (O.faults out.old) (O.faults out.new) }
 {
-    let mut session = match Session::new(alloc, rules) {
+    let mut session = match Session::new(alloc, rules, late) {
         Ok(session) => session,
         Err(_) => return Err(ServeFault::Memory),
     };
@@ -100,9 +79,16 @@ fn serve_rules<I: Source, O: Sink>(
 }
 
 // What a run does once it has its rules.
-fn run_rules<I: Source, O: Sink>(alloc: Global, rules: Checked, input: &mut I, out: &mut O) -> Cause
+fn run_rules<I: Source, O: Sink>(
+    alloc: Global,
+    rules: Checked,
+    late: Option<u64>,
+    input: &mut I,
+    out: &mut O,
+) -> Cause
+    requires { IfSome late (λ l. l < 2 ^ 62) }
     ensures done { result ≡ Cause.Done → IfSome (I.left input.old) (λ bytes.
-        Gives (O.got out.old) (O.got out.new) (out_text (plain_rules rules) bytes)) }
+        Gives (O.got out.old) (O.got out.new) (out_text record { rules = plain_rules rules; late = late } bytes)) }
     ensures read_to_end { result ≡ Cause.Done → IsAtEnd (I.left input.new) }
     ensures write { result ≡ Cause.WriteFault → Rose (O.faults out.old) (O.faults out.new) }
     ensures read { result ≡ Cause.InputUnread → Rose (I.faults input.old) (I.faults input.new) }
@@ -110,15 +96,16 @@ fn run_rules<I: Source, O: Sink>(alloc: Global, rules: Checked, input: &mut I, o
         → OnTaken (I.left input.old) (I.left input.new) (λ taken. 2 ^ 60 ≤ length taken) }
     ensures no_longer { OnTaken (I.left input.old) (I.left input.new) (λ taken. 2 ^ 60 ≤ length taken
         → (result ≡ Cause.TooLong) ⊎ (result ≡ Cause.Memory)) }
-    ensures part { PartFor (plain_rules rules) (I.left input.old) (I.left input.new) (O.got out.old) (O.got out.new) }
+    ensures part { PartFor record { rules = plain_rules rules; late = late } (I.left input.old) (I.left input.new) (O.got out.old) (O.got out.new) }
     ensures replied { result ≡ Cause.InputUnread → OnTaken (I.left input.old) (I.left input.new) (λ taken.
-        Gives (O.got out.old) (O.got out.new) (replies (start (plain_rules rules)) (ended taken))) }
+        Gives (O.got out.old) (O.got out.new) (replies (start record { rules = plain_rules rules; late = late }) (ended taken))) }
     ensures long_replied { result ≡ Cause.TooLong → Rose (O.faults out.old) (O.faults out.new)
         ⊎ OnTaken (I.left input.old) (I.left input.new) (λ taken.
-        Gives (O.got out.old) (O.got out.new) (replies (start (plain_rules rules)) (ended taken))) }
+        Gives (O.got out.old) (O.got out.new) (replies (start record { rules = plain_rules rules; late = late }) (ended taken))) }
     ensures causes { IsServeCause result }
+    ensures long { result ≡ Cause.TooLong → IfSome (I.left input.old) (λ bytes. 2 ^ 60 ≤ length bytes) }
 {
-    cause_of(serve_rules(alloc, rules, input, out))
+    cause_of(serve_rules(alloc, rules, late, input, out))
 }
 
 // All of a run but its note.
@@ -131,8 +118,8 @@ fn work<S: Shelf, I: Source, O: Sink>(
 ) -> Cause
     requires { MayAsk (form words.now) (S.serves shelf.old) }
 
-    ensures done { status_of result ≡ Status.Done → OnRules (file_of (form words.now) (S.holds shelf.old)) (λ rules.
-        IfSome (I.left input.old) (λ bytes. Gives (O.got out.old) (O.got out.new) (out_text rules bytes))) }
+    ensures done { status_of result ≡ Status.Done → OnRules (file_of (form words.now) (S.holds shelf.old)) (late_of (form words.now)) (λ w.
+        IfSome (I.left input.old) (λ bytes. Gives (O.got out.old) (O.got out.new) (out_text w bytes))) }
     ensures read_to_end { status_of result ≡ Status.Done → IsAtEnd (I.left input.new) }
     ensures accepted { WasServed (status_of result)
         → IfSome (file_of (form words.now) (S.holds shelf.old)) IsAccepted }
@@ -156,29 +143,33 @@ fn work<S: Shelf, I: Source, O: Sink>(
         → (Rose (S.faults shelf.old) (S.faults shelf.new) × (O.got out.new ≡ O.got out.old) × (I.left input.new ≡ I.left input.old))
         ⊎ (Rose (I.faults input.old) (I.faults input.new) × (S.faults shelf.new ≡ S.faults shelf.old)
         × IfSome (file_of (form words.now) (S.holds shelf.old)) IsAccepted) }
-    ensures part { OnRules (file_of (form words.now) (S.holds shelf.old)) (λ rules.
-        PartFor rules (I.left input.old) (I.left input.new) (O.got out.old) (O.got out.new)) }
-    ensures replied { status_of result ≡ Status.ReadFault → OnRules (file_of (form words.now) (S.holds shelf.old)) (λ rules.
+    ensures part { OnRules (file_of (form words.now) (S.holds shelf.old)) (late_of (form words.now)) (λ w.
+        PartFor w (I.left input.old) (I.left input.new) (O.got out.old) (O.got out.new)) }
+    ensures replied { status_of result ≡ Status.ReadFault → OnRules (file_of (form words.now) (S.holds shelf.old)) (late_of (form words.now)) (λ w.
         OnTaken (I.left input.old) (I.left input.new) (λ taken.
-        Gives (O.got out.old) (O.got out.new) (replies (start rules) (ended taken)))) }
+        Gives (O.got out.old) (O.got out.new) (replies (start w) (ended taken)))) }
     ensures long_replied { status_of result ≡ Status.TooLong → Rose (O.faults out.old) (O.faults out.new)
-        ⊎ OnRules (file_of (form words.now) (S.holds shelf.old)) (λ rules.
+        ⊎ OnRules (file_of (form words.now) (S.holds shelf.old)) (late_of (form words.now)) (λ w.
         OnTaken (I.left input.old) (I.left input.new) (λ taken.
-        Gives (O.got out.old) (O.got out.new) (replies (start rules) (ended taken)))) }
+        Gives (O.got out.old) (O.got out.new) (replies (start w) (ended taken)))) }
+
+    ensures complete { IsComplete (status_of result) (file_of (form words.now) (S.holds shelf.old)) (I.left input.old)
+        (Rose (S.faults shelf.old) (S.faults shelf.new)) (Rose (I.faults input.old) (I.faults input.new)) (Rose (O.faults out.old) (O.faults out.new)) }
 
     ensures refused_as { RefusedAs result (file_of (form words.now) (S.holds shelf.old)) }
     ensures rules_count { result ≡ Cause.RulesUnread → Rose (S.faults shelf.old) (S.faults shelf.new) }
     ensures input_count { result ≡ Cause.InputUnread → Rose (I.faults input.old) (I.faults input.new) }
 {
-    let name = match file_name(words) {
-        Some(name) => name,
-        None => return Cause::Usage,
+    let job = match run_words(alloc, words) {
+        Ok(job) => job,
+        Err(WordsFault::Usage) => return Cause::Usage,
+        Err(WordsFault::Memory) => return Cause::Memory,
     };
-    let rules = match read_rules(alloc, shelf, name) {
+    let rules = match read_rules(alloc, shelf, job.rules.as_str()) {
         Ok(rules) => rules,
         Err(cause) => return cause,
     };
-    run_rules(alloc, rules, input, out)
+    run_rules(alloc, rules, job.late, input, out)
 }
 
 /// Reads the rule file and the lines, and writes the replies. A note says why the run ended, where
@@ -193,8 +184,8 @@ pub fn run<S: Shelf, I: Source, O: Sink, N: Sink>(
 ) -> Status
     requires { MayAsk (form words.now) (S.serves shelf.old) }
 
-    ensures done { result ≡ Status.Done → OnRules (file_of (form words.now) (S.holds shelf.old)) (λ rules.
-        IfSome (I.left input.old) (λ bytes. Gives (O.got out.old) (O.got out.new) (out_text rules bytes))) }
+    ensures done { result ≡ Status.Done → OnRules (file_of (form words.now) (S.holds shelf.old)) (late_of (form words.now)) (λ w.
+        IfSome (I.left input.old) (λ bytes. Gives (O.got out.old) (O.got out.new) (out_text w bytes))) }
     ensures read_to_end { result ≡ Status.Done → IsAtEnd (I.left input.new) }
     ensures accepted { WasServed result
         → IfSome (file_of (form words.now) (S.holds shelf.old)) IsAccepted }
@@ -218,15 +209,18 @@ pub fn run<S: Shelf, I: Source, O: Sink, N: Sink>(
         → (Rose (S.faults shelf.old) (S.faults shelf.new) × (O.got out.new ≡ O.got out.old) × (I.left input.new ≡ I.left input.old))
         ⊎ (Rose (I.faults input.old) (I.faults input.new) × (S.faults shelf.new ≡ S.faults shelf.old)
         × IfSome (file_of (form words.now) (S.holds shelf.old)) IsAccepted) }
-    ensures part { OnRules (file_of (form words.now) (S.holds shelf.old)) (λ rules.
-        PartFor rules (I.left input.old) (I.left input.new) (O.got out.old) (O.got out.new)) }
-    ensures replied { result ≡ Status.ReadFault → OnRules (file_of (form words.now) (S.holds shelf.old)) (λ rules.
+    ensures part { OnRules (file_of (form words.now) (S.holds shelf.old)) (late_of (form words.now)) (λ w.
+        PartFor w (I.left input.old) (I.left input.new) (O.got out.old) (O.got out.new)) }
+    ensures replied { result ≡ Status.ReadFault → OnRules (file_of (form words.now) (S.holds shelf.old)) (late_of (form words.now)) (λ w.
         OnTaken (I.left input.old) (I.left input.new) (λ taken.
-        Gives (O.got out.old) (O.got out.new) (replies (start rules) (ended taken)))) }
+        Gives (O.got out.old) (O.got out.new) (replies (start w) (ended taken)))) }
     ensures long_replied { result ≡ Status.TooLong → Rose (O.faults out.old) (O.faults out.new)
-        ⊎ OnRules (file_of (form words.now) (S.holds shelf.old)) (λ rules.
+        ⊎ OnRules (file_of (form words.now) (S.holds shelf.old)) (late_of (form words.now)) (λ w.
         OnTaken (I.left input.old) (I.left input.new) (λ taken.
-        Gives (O.got out.old) (O.got out.new) (replies (start rules) (ended taken)))) }
+        Gives (O.got out.old) (O.got out.new) (replies (start w) (ended taken)))) }
+
+    ensures complete { IsComplete result (file_of (form words.now) (S.holds shelf.old)) (I.left input.old)
+        (Rose (S.faults shelf.old) (S.faults shelf.new)) (Rose (I.faults input.old) (I.faults input.new)) (Rose (O.faults out.old) (O.faults out.new)) }
 
     ensures note { (text : List ℕ)
         × IsNoteOf result text (file_of (form words.now) (S.holds shelf.old)) (Rose (S.faults shelf.old) (S.faults shelf.new)) (Rose (I.faults input.old) (I.faults input.new))

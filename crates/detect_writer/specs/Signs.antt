@@ -1,0 +1,9 @@
+-- The signs of changes as they are written.
+use Rattle.std.specs.Prelude.{ℕ}
+use Rattle.revision.specs.declared.changes.Sign.{Sign}
+use Rattle.revision.specs.declared.changes.Sign.TheVariants.{Plus, Minus}
+
+-- `+` or `-`
+abbrev pub sign_byte : Sign → ℕ
+sign_byte Plus = 43
+sign_byte Minus = 45
