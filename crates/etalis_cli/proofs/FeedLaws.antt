@@ -7,7 +7,7 @@ use Rattle.ev_term.specs.Lines.{without_cr, ended, rest, ended_from, rest_from, 
 use Rattle.line_reader.specs.Cutting.{NoFeed}
 use Rattle.line_reader.specs.Holding.{Holds}
 use Rattle.line_reader.specs.declared.reading.LineReader.{LineReader}
-use Rattle.line_reader.proofs.CutLaws.{first_line, first_rest, no_line, no_line_rest, ended_behind, rest_behind}
+use Rattle.line_reader.proofs.CutLaws.{ended-line, rest-line, ended-open, rest-open, ended-front, rest-front}
 use Rattle.pattern_meaning.specs.Replies.{State}
 use Rattle.etalis_cli.specs.Output.{after, after_line, reply_to, replies}
 use Rattle.etalis_cli.specs.StandsFor.{StandsFor}
@@ -76,7 +76,7 @@ pub drained_line : (s : State) (part piece : List ℕ) (got : Option (List ℕ))
     → d.left ≡ raw ++ 10 ∷ more → NoFeed raw → Holds q more → u ≡ t ++ reply_to d.reached (without_cr raw) → StandsFor b (after_line d.reached (without_cr raw)) → Drained s part piece got (Some u) b q
 drained_line s part piece got t u a b p q d raw more e plain h text next =
     let line : List ℕ = raw ++ 10 ∷ [] in
-    let lines : ended line ≡ without_cr raw ∷ [] = first_line raw [] plain in
+    let lines : ended line ≡ without_cr raw ∷ [] = ended-line raw [] plain in
     record {
       reached = after_line d.reached (without_cr raw);
       done = d.done ++ line;
@@ -86,7 +86,7 @@ drained_line s part piece got t u a b p q d raw more e plain h text next =
       holds = h;
       feeds = feeds_more _ _ _ d.done line d.feeds (record {
         state = ap (after d.reached) (sym lines);
-        part = sym (first_rest raw [] plain);
+        part = sym (rest-line raw [] plain);
         got = ap Some (text ∙ ap (λ r. t ++ r) (sym (append-nil (reply_to d.reached (without_cr raw)))) ∙ ap (λ l. t ++ replies d.reached l) (sym lines));
       });
     }
@@ -95,14 +95,14 @@ drained_line s part piece got t u a b p q d raw more e plain h text next =
 pub drained_all : (s : State) (part piece : List ℕ) (got sent : Option (List ℕ)) (session : Session) (reader : LineReader) (d : Drained s part piece got sent session reader) → NoFeed part → NoFeed d.left
     → FedTo (record { state = s; part = part; got = got }) session reader sent piece
 drained_all s part piece got sent session reader d open plain =
-    let lines : ended d.left ≡ [] = no_line d.left plain in
+    let lines : ended d.left ≡ [] = ended-open d.left plain in
     let f : Feeds (record { state = s; part = []; got = got }) (record { state = d.reached; part = d.left; got = sent }) (d.done ++ d.left) = feeds_more _ (record { state = d.reached; part = []; got = sent }) _ d.done d.left d.feeds (record {
       state = ap (after d.reached) (sym lines);
-      part = sym (no_line_rest d.left plain);
+      part = sym (rest-open d.left plain);
       got = sym (append_known-nil sent) ∙ ap (λ l. append_known sent (replies d.reached l)) (sym lines);
     }) in
-    let same_ended : ended (d.done ++ d.left) ≡ ended_from part piece = ap ended (sym d.whole) ∙ sym (ended_behind part piece open) in
-    let same_rest : rest (d.done ++ d.left) ≡ rest_from part piece = ap rest (sym d.whole) ∙ sym (rest_behind part piece open) in
+    let same_ended : ended (d.done ++ d.left) ≡ ended_from part piece = ap ended (sym d.whole) ∙ sym (ended-front part piece open) in
+    let same_rest : rest (d.done ++ d.left) ≡ rest_from part piece = ap rest (sym d.whole) ∙ sym (rest-front part piece open) in
     record {
       reached = d.reached;
       rest = d.left;

@@ -5,3 +5,4 @@ pub mod ShownLaws
 pub mod RuleLaws
 pub mod TopLaws
 pub mod NoteLaws
+pub mod WordLaws

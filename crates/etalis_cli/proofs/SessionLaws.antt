@@ -3,7 +3,7 @@ use Rattle.std.proofs.Common.{◌≡◌, ℕ, ◌+◌, ◌<◌, ◌≤◌, List,
 use Rattle.ev_term.specs.Presence.{Verdict, Taken, Refused, verdict, after_verdict, Fails}
 use Rattle.ev_term.specs.declared.inputs.Input.{Input}
 use Rattle.pattern_meaning.specs.Replies.{State, reply, reply_text}
-use Rattle.event_reader.specs.Heard.{heard}
+use Rattle.event_reader.specs.Machine.{heard}
 use Rattle.event_reader.proofs.LineLaws.{heard_short}
 use Rattle.etalis_core.specs.StandsFor as core
 use Rattle.etalis_core.specs.StandsFor.{rules_of, late_of}

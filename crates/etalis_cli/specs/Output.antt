@@ -6,7 +6,7 @@ use Rattle.ev_term.specs.Lines.{lines_of}
 use Rattle.rule_ast.specs.Trees.{PlainStatement}
 use Rattle.pattern_meaning.specs.Replies as replies
 use Rattle.pattern_meaning.specs.Replies.{State, after_said, after_all, reply_to_said, replies_to, reply_text, end_text}
-use Rattle.event_reader.specs.Heard.{heard}
+use Rattle.event_reader.specs.Machine.{heard}
 
 -- what a run is made with: the rules, and how late an event may come
 pub record Setting : Type 0 where

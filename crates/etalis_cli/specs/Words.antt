@@ -1,6 +1,7 @@
 -- What the words of a command line ask for.
-use Rattle.std.specs.Prelude.{◌≡◌, ℕ, ◌^◌, Bool, true, not, ◌&&◌, ◌==◌, nat_lt, if◌then◌else◌, List, [], ◌∷◌, Option, Some, None, String, string_bytes, codes, length}
-use Rattle.std.specs.Str.{bytes_eq, all_ascii_digits}
+use Rattle.std.specs.Prelude.{◌≡◌, ℕ, ◌^◌, Bool, true, not, ◌&&◌, ◌==◌, nat_le, nat_lt, if◌then◌else◌, List, [], ◌∷◌, Option, Some, None, String, string_bytes, codes, length}
+use Rattle.std.specs.List.{list_all}
+use Rattle.std.specs.Str.{bytes_eq}
 use Rattle.std.specs.Str.Parse.{digits_value}
 use Rattle.std.specs.declared.alloc.Global.{Global}
 use Rattle.etalis_cli.specs.declared.words.Mode.{Mode}
@@ -23,13 +24,20 @@ is_name [] = true
 is_name (b ∷ []) = true
 is_name (b ∷ c ∷ more) = not (b == 45)
 
--- one digit or more, with a value below 2^62
-abbrev pub is_late : List ℕ → Bool
-is_late word = all_ascii_digits word && (nat_lt 0 (length word) && nat_lt (digits_value 10 word) (2 ^ 62))
+abbrev pub is_digit : ℕ → Bool
+is_digit b = nat_le 48 b && nat_le b 57
+
+-- the value of one digit or more, where it is below 2^62
+abbrev pub late_said : List ℕ → Option ℕ
+late_said word = if list_all is_digit word && (nat_lt 0 (length word) && nat_lt (digits_value 10 word) (2 ^ 62)) then Some (digits_value 10 word) else None
 
 -- a run; the seed and the number of lines are those of a job that names none
 abbrev pub run_of : List ℕ → Option ℕ → PlainJob
 run_of name late = record { mode = Run; rules = name; late = late; seed = 1; lines = 1000 }
+
+abbrev pub late_run : List ℕ → Option ℕ → Option PlainJob
+late_run name None = None
+late_run name (Some late) = Some (run_of name (Some late))
 
 -- `run RULES` and `run RULES --late N`
 abbrev pub form : List (String Global) → Option PlainJob
@@ -38,6 +46,6 @@ form (mode ∷ []) = None
 form (mode ∷ name ∷ []) = if bytes_eq (string_bytes mode) (codes "run") && is_name (string_bytes name) then Some (run_of (string_bytes name) None) else None
 form (mode ∷ name ∷ option ∷ []) = None
 form (mode ∷ name ∷ option ∷ number ∷ []) =
-    if bytes_eq (string_bytes mode) (codes "run") && (is_name (string_bytes name) && (bytes_eq (string_bytes option) (codes "--late") && is_late (string_bytes number)))
-    then Some (run_of (string_bytes name) (Some (digits_value 10 (string_bytes number)))) else None
+    if bytes_eq (string_bytes mode) (codes "run") && (is_name (string_bytes name) && bytes_eq (string_bytes option) (codes "--late"))
+    then late_run (string_bytes name) (late_said (string_bytes number)) else None
 form (mode ∷ name ∷ option ∷ number ∷ word ∷ words) = None

@@ -4,7 +4,7 @@ ghost use Rattle.ev_term.specs.Lines.{without_cr};
 ghost use Rattle.ev_term.specs.Presence.{judge, verdict, after_verdict};
 ghost use Rattle.line_reader.specs.Cutting.{IsLine};
 ghost use Rattle.pattern_meaning.specs.Replies.{change_by, both_texts, reply, reply_to_input, reply_text};
-ghost use Rattle.event_reader.specs.Heard.{heard};
+ghost use Rattle.event_reader.specs.Machine.{heard};
 ghost use Rattle.etalis_core.specs.StandsFor.{StandsFor, rules_of, late_of, last_change, is_resting};
 ghost use Rattle.etalis_cli.specs.Replying.{refusal_of, is_quiet};
 

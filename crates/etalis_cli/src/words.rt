@@ -1,7 +1,8 @@
 // What the words of a command line ask for.
-ghost use Rattle.std.specs.Prelude.{◌≡◌, ◌↔◌, ◌<◌, ◌^◌, None, Some, IfSome, MatchOption, IfOk, IsErrOf};
+ghost use Rattle.std.specs.Prelude.{◌≡◌, ◌↔◌, ◌<◌, ◌^◌, true, None, Some, IfSome, MatchOption, IfOk, IsErrOf, length};
+ghost use Rattle.std.specs.List.{list_all};
 ghost use Rattle.std.specs.Str.Parse.{digits_value};
-ghost use Rattle.etalis_cli.specs.Words.{PlainJob, form, is_name, is_late, plain_job};
+ghost use Rattle.etalis_cli.specs.Words.{PlainJob, form, is_name, is_digit, late_said, run_of, plain_job};
 
 use std::alloc::{AllocError, Global};
 use thiserror::Error;
@@ -36,12 +37,6 @@ pub enum WordsFault {
     Memory,
 }
 
-impl From<AllocError> for WordsFault {
-    fn from(_: AllocError) -> WordsFault {
-        WordsFault::Memory
-    }
-}
-
 // Whether a word can name a file.
 fn is_name(name: &[u8]) -> bool
     ensures { result ≡ is_name name.now }
@@ -52,22 +47,44 @@ fn is_name(name: &[u8]) -> bool
     }
 }
 
-// The ticks that a word of digits says.
-fn read_late(word: &str) -> Option<u64>
-    ensures { MatchOption result (is_late word.now ≡ false) (λ late. (is_late word.now ≡ true) × (late ≡ digits_value 10 word.now)) }
-    ensures range { IfSome result (λ late. late < 2 ^ 62) }
+fn all_digits(word: &[u8]) -> bool
+    ensures { result ≡ list_all is_digit word.now }
 {
-    if !word.bytes().all(|byte| byte.is_ascii_digit()) {
-        return None;
-    }
+    word.iter().all(|byte| *byte >= b'0' && *byte <= b'9')
+}
+
+// The number that a word says, where it is all digits and the number has 64 bits.
+fn read_number(word: &str) -> Option<u64>
+    requires { list_all is_digit word.now ≡ true }
+    ensures { MatchOption result
+        (0 < length word.now → digits_value 10 word.now < 2 ^ 64 → ⊥)
+        (λ number. (0 < length word.now) × (number ≡ digits_value 10 word.now)) }
+{
     match word.parse::<u64>() {
-        Ok(late) if late < 1 << 62 => Some(late),
-        _ => None,
+        Ok(number) => Some(number),
+        Err(_) => None,
     }
 }
 
+// The ticks that a word says.
+fn read_late(word: &str) -> Option<u64>
+    ensures value { result ≡ late_said word.now }
+    ensures range { IfSome result (λ late. late < 2 ^ 62) }
+{
+    if !all_digits(word.as_bytes()) {
+        return None;
+    }
+    let late = read_number(word)?;
+    if late >= 1 << 62 {
+        return None;
+    }
+    Some(late)
+}
+
 // A job of the mode `Run`.
-fn run_job(alloc: Global, name: &str, late: Option<u64>) -> Result<Job, WordsFault> {
+fn run_job(alloc: Global, name: &str, late: Option<u64>) -> Result<Job, AllocError>
+    ensures { IfOk result (λ job. plain_job job ≡ run_of name.now late) }
+{
     Ok(Job {
         mode: Mode::Run,
         rules: String::from_str(alloc, name)?,
@@ -77,6 +94,31 @@ fn run_job(alloc: Global, name: &str, late: Option<u64>) -> Result<Job, WordsFau
     })
 }
 
+// The name of the rule file and the lateness, where the words are in form.
+fn run_parts(words: &[String]) -> Option<(&str, Option<u64>)>
+    ensures form { MatchOption result (form words.now ≡ None) (λ x. form words.now ≡ Some (run_of x.0.now x.1)) }
+    ensures range { IfSome result (λ x. IfSome x.1 (λ late. late < 2 ^ 62)) }
+{
+    match words {
+        [mode, name] => {
+            if mode.as_str() != "run" || !is_name(name.as_bytes()) {
+                return None;
+            }
+            Some((name.as_str(), None))
+        }
+        [mode, name, option, number] => {
+            if mode.as_str() != "run" || !is_name(name.as_bytes()) || option.as_str() != "--late" {
+                return None;
+            }
+            match read_late(number.as_str()) {
+                Some(late) => Some((name.as_str(), Some(late))),
+                None => None,
+            }
+        }
+        _ => None,
+    }
+}
+
 /// The job that the words give, in one of the forms `run RULES` and `run RULES --late N`, where N is
 /// one digit or more with a value below 2^62.
 pub fn run_words(alloc: Global, words: &[String]) -> Result<Job, WordsFault>
@@ -84,22 +126,12 @@ pub fn run_words(alloc: Global, words: &[String]) -> Result<Job, WordsFault>
     ensures late { IfOk result (λ job. IfSome job.late (λ late. late < 2 ^ 62)) }
     ensures usage { IsErrOf result WordsFault.Usage ↔ (form words.now ≡ None) }
 {
-    match words {
-        [mode, name] => {
-            if mode.as_str() != "run" || !is_name(name.as_bytes()) {
-                return Err(WordsFault::Usage);
-            }
-            run_job(alloc, name.as_str(), None)
-        }
-        [mode, name, option, number] => {
-            if mode.as_str() != "run" || !is_name(name.as_bytes()) || option.as_str() != "--late" {
-                return Err(WordsFault::Usage);
-            }
-            match read_late(number.as_str()) {
-                Some(late) => run_job(alloc, name.as_str(), Some(late)),
-                None => Err(WordsFault::Usage),
-            }
-        }
-        _ => Err(WordsFault::Usage),
+    let (name, late) = match run_parts(words) {
+        Some(parts) => parts,
+        None => return Err(WordsFault::Usage),
+    };
+    match run_job(alloc, name, late) {
+        Ok(job) => Ok(job),
+        Err(_) => Err(WordsFault::Memory),
     }
 }
