@@ -174,6 +174,40 @@ fn patterns_find_what_the_table_says(rt: HostRuntime) -> Result<(), Fail> {
     Ok(())
 }
 
+// The operators that ask for equal starts or ends, over spans of which one pair fits and the others miss by one condition.
+#[test]
+fn operators_compare_starts_and_ends(rt: HostRuntime) -> Result<(), Fail> {
+    let rows: [(&[u8], &[u8], &[u8]); 4] = [
+        (
+            b"show p/0. x <- a SEQ b. y <- c SEQ d. p <- x EQUALS y.",
+            b"+ 1 a\n+ 2 c\n+ 5 b\n+ 5 d\n+ 1 c\n+ 6 d\n",
+            b"ok 1\nok 2\nok 3\nok 4\n+ 1 5 p\nok 5\nok 6\nend 6\n",
+        ),
+        (
+            b"show p/0. x <- a SEQ b. y <- c SEQ d. p <- x MEETS y.",
+            b"+ 1 a\n+ 3 b\n+ 3 c\n+ 7 d\n+ 4 c\n+ 7 a\n+ 9 b\n",
+            b"ok 1\nok 2\nok 3\n+ 1 7 p\nok 4\nok 5\nok 6\nok 7\nend 7\n",
+        ),
+        (
+            b"show p/0. x <- a SEQ b. y <- c SEQ d. p <- x STARTS y.",
+            b"+ 1 a\n+ 1 c\n+ 3 b\n+ 3 d\n+ 7 d\n+ 2 c\n+ 9 b\n",
+            b"ok 1\nok 2\nok 3\nok 4\n+ 1 7 p\nok 5\nok 6\nok 7\nend 7\n",
+        ),
+        (
+            b"show p/0. x <- a SEQ b. y <- c SEQ d. p <- x FINISHES y.",
+            b"+ 3 a\n+ 7 b\n+ 3 c\n+ 7 d\n+ 1 c\n+ 8 d\n+ 1 a\n",
+            b"ok 1\nok 2\nok 3\nok 4\n+ 1 7 p\nok 5\nok 6\nok 7\nend 7\n",
+        ),
+    ];
+    for row in rows {
+        let ran = run_over(rt.alloc(), &["run", "r"], row.0, row.1, CALM)?;
+        assert_eq!(rt; ran.status, Status::Done);
+        assert_eq!(rt; ran.out.bytes(), row.2);
+        assert_eq!(rt; ran.notes.bytes(), b"".as_slice());
+    }
+    Ok(())
+}
+
 #[test]
 fn pieces_make_no_difference(rt: HostRuntime) -> Result<(), Fail> {
     let setting = Setting {
