@@ -1,31 +1,23 @@
 #!/bin/sh
-# Times the reading of a million lines, beside a plain loop over the same bytes. README.md says more.
+# Times the program on lines that only have to be read, and on lines whose events are looked at. README.md says more.
 set -eu
-here=$(cd "$(dirname "$0")" && pwd)
+top=$(cd "$(dirname "$0")/.." && pwd)
 work=${1:-${TMPDIR:-/tmp}/etalis-bench}
-crate=$work/crates/read_lines
+mkdir -p "$work"
 
-mkdir -p "$work" "$crate/src"
-cp -R "$here/../crates" "$work"
-cp "$here/../HANDLES" "$work"
-cp "$here/read_lines.rattle" "$crate/src/main.rt"
-{
-    cat "$here/../crates.txt"
-    echo "read_lines: flow_ports ev_term canonical_forms"
-} > "$work/crates.txt"
+echo 'ab(X) <- a(X) SEQ b(X).' > "$work/small.rules"
+: > "$work/none"
+awk 'BEGIN { for (n = 0; n < 1000000; n++) printf "+ %d unused(%d,\"text\",f(x))\n", n % 100, n % 100 }' > "$work/unused"
+awk 'BEGIN { for (n = 0; n < 300; n++) printf "%s %d %s(%d)\n", n % 10 == 9 ? "-" : "+", n % 10 == 9 ? n - 9 : n, n % 2 && n % 10 != 9 ? "b" : "a", n % 10 == 9 ? (n - 9) % 6 : n % 6 }' > "$work/whole"
+"$top/etalis" run "$work/small.rules" < "$work/none" > /dev/null
 
-lines=$work/lines
-awk 'BEGIN { for (n = 0; n < 1000000; n++) printf "+ %d a(%d,\"text\",f(x))\n", n, n }' > "$lines"
-echo "building; the first time takes some minutes" >&2
-(cd "$crate" && rt run -- load < "$lines" > /dev/null)
-
-# The least of five runs, in milliseconds.
+# The least of five runs over a file of lines, in microseconds.
 least() {
     best=
     for turn in 1 2 3 4 5; do
         from=$(date +%s%N)
-        "$crate/out/read_lines" "$1" < "$lines"
-        took=$((($(date +%s%N) - from) / 1000000))
+        "$top/etalis" run "$work/small.rules" < "$work/$1" > /dev/null
+        took=$((($(date +%s%N) - from) / 1000))
         if [ -z "$best" ] || [ "$took" -lt "$best" ]; then
             best=$took
         fi
@@ -33,11 +25,11 @@ least() {
     echo "$best"
 }
 
-load=$(least load)
+start=$(least none)
 report() {
-    took=$(($(least "$1") - load))
+    took=$(($(least "$1") - start))
     [ "$took" -gt 0 ] || took=1
-    echo "$2: $took ms, $((1000000000 / took)) lines a second"
+    echo "$3: $2 lines in $took us, $(($2 * 1000000 / took)) lines a second"
 }
-report events "events read from 1000000 lines"
-report feeds "a plain loop over the same bytes"
+report unused 1000000 "events of a name that no rule uses"
+report whole 300 "events and retractions with one rule"

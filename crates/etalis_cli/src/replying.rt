@@ -1,11 +1,11 @@
 // Lines to their replies.
-ghost use Rattle.std.specs.Prelude.{◌≡◌, ◌++◌, ◌∷◌, ◌<◌, ◌≤◌, ◌^◌, ℕ, List, [], length, OnOk};
+ghost use Rattle.std.specs.Prelude.{◌≡◌, ◌++◌, ◌∷◌, ◌<◌, ◌≤◌, ◌^◌, ℕ, List, [], length, false, OnOk};
 ghost use Rattle.ev_term.specs.Lines.{without_cr};
-ghost use Rattle.ev_term.specs.Presence.{judge, verdict, after_verdict};
+ghost use Rattle.ev_term.specs.Presence.{verdict, after_verdict};
 ghost use Rattle.line_reader.specs.Cutting.{IsLine};
 ghost use Rattle.pattern_meaning.specs.Replies.{change_by, both_texts, reply, reply_to_input, reply_text};
 ghost use Rattle.event_reader.specs.Machine.{heard};
-ghost use Rattle.etalis_core.specs.StandsFor.{StandsFor, rules_of, late_of, last_change, is_resting};
+ghost use Rattle.etalis_core.specs.StandsFor.{StandsFor, CanBegin, rules_of, late_of, last_change, is_working, is_spent};
 ghost use Rattle.etalis_cli.specs.Replying.{refusal_of, is_quiet};
 
 use detect_writer::{change_text, ok_text, refusal_text};
@@ -42,7 +42,7 @@ fn is_quiet(input: &Input) -> bool
 
 // Has the engine take an input that is fine.
 fn take(engine: &mut Engine, input: Input) -> Result<(), AllocError>
-    requires { (h : List Input) × StandsFor engine.old h × (judge (late_of engine.old) h input ≡ Judgement.Fine) × (length h < 2 ^ 63) }
+    requires { (h : List Input) × CanBegin engine.old h input }
     ensures stands { (h : List Input) → StandsFor engine.old h → OnOk result (StandsFor engine.new (h ++ input ∷ [])) }
     ensures change { (h : List Input) → StandsFor engine.old h
         → OnOk result (last_change engine.new ≡ change_by (rules_of engine.old) h input) }
@@ -63,7 +63,8 @@ fn take(engine: &mut Engine, input: Input) -> Result<(), AllocError>
 
 // The lines of what changed last.
 fn push_changes(engine: &Engine, out: &mut Vec<u8>) -> Result<(), AllocError>
-    requires { is_resting engine.now ≡ true }
+    requires resting { is_working engine.now ≡ false }
+    requires unspent { is_spent engine.now ≡ false }
     ensures { OnOk result (out.new.items ≡ out.old.items ++ both_texts (last_change engine.now)) }
 {
     for changed in engine.changes() {
@@ -79,7 +80,7 @@ fn take_input(
     input: Input,
     out: &mut Vec<u8>,
 ) -> Result<(), AllocError>
-    requires { (h : List Input) × StandsFor engine.old h × (judge (late_of engine.old) h input ≡ Judgement.Fine) × (length h < 2 ^ 63) }
+    requires { (h : List Input) × CanBegin engine.old h input }
     ensures stands { (h : List Input) → StandsFor engine.old h → OnOk result (StandsFor engine.new (h ++ input ∷ [])) }
     ensures text { (h : List Input) → StandsFor engine.old h
         → OnOk result (out.new.items ≡ out.old.items ++ reply_text (reply_to_input (rules_of engine.old) h number input)) }

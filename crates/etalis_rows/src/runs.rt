@@ -6,6 +6,8 @@ use std::test::Fail;
 
 const AB: &[u8] = b"ab(X) <- a(X) SEQ b(X).\n";
 
+const ABSENT: &[u8] = b"n(X) <- NOT(c(X)).[a(X),b(X)].";
+
 // Which calls of the objects fail, and in which pieces the input comes.
 #[derive(Clone, Copy)]
 struct Setting<'a> {
@@ -81,12 +83,12 @@ fn documented_outputs(rt: HostRuntime) -> Result<(), Fail> {
         (
             AB,
             b"+ 1 a(\"x,\\n\")\n+ 2 a(f(g,-2))\n+ 3 b(\"x,\\n\")\n+ 3 b(f(g, -2))\n+ 4 b(f(g,-2))\n",
-            b"ok 1\nok 2\n+ 1 3 ab(\"x,\\n\")\nok 3\nno 4 unbuilt\n+ 2 4 ab(f(g,-2))\nok 5\nend 5\n",
+            b"ok 1\nok 2\n+ 1 3 ab(\"x,\\n\")\nok 3\n+ 2 3 ab(f(g,-2))\nok 4\n+ 2 4 ab(f(g,-2))\nok 5\nend 5\n",
         ),
         (
             AB,
             b"+ 1 a(7)\n- 1 a(7)\n+ 1 a(7)\r\n+ 2 b(7)",
-            b"ok 1\nno 2 unbuilt\nok 3\n+ 1 2 ab(7)\nok 4\nend 4\n",
+            b"ok 1\nok 2\nok 3\n+ 1 2 ab(7)\nok 4\nend 4\n",
         ),
         (
             b"h <- a(_) SEQ b(\"x\").",
@@ -103,26 +105,128 @@ fn documented_outputs(rt: HostRuntime) -> Result<(), Fail> {
     Ok(())
 }
 
+// Late events, retractions, the bound, and lines that are refused.
+#[test]
+fn lines_are_taken_or_refused(rt: HostRuntime) -> Result<(), Fail> {
+    let plain: &[&str] = &["run", "r"];
+    let rows: [(&[&str], &[u8], &[u8], &[u8]); 13] = [
+        (
+            &["run", "r", "--late", "10"],
+            AB,
+            b"+ 5 b(7)\n+ 3 a(7)\n",
+            b"ok 1\n+ 3 5 ab(7)\nok 2\nend 2\n",
+        ),
+        (
+            &["run", "r", "--late", "2"],
+            AB,
+            b"+ 10 a(1)\n+ 7 b(1)\n+ 8 b(1)\n",
+            b"ok 1\nno 2 below 8\nok 3\nend 3\n",
+        ),
+        (
+            plain,
+            AB,
+            b"+ 1 a(7)\n+ 1 a(7)\n+ 2 b(7)\n- 1 a(7)\n- 1 a(7)\n",
+            b"ok 1\nok 2\n+ 1 2 ab(7)\nok 3\nok 4\n- 1 2 ab(7)\nok 5\nend 5\n",
+        ),
+        (
+            plain,
+            AB,
+            b"+ 1 a(7)\n- 1 a(8)\n",
+            b"ok 1\nno 2 absent\nend 2\n",
+        ),
+        (
+            plain,
+            ABSENT,
+            b"+ 1 a(7)\n+ 5 b(7)\n+ 3 c(7)\n- 3 c(7)\n",
+            b"ok 1\n+ 1 5 n(7)\nok 2\n- 1 5 n(7)\nok 3\n+ 1 5 n(7)\nok 4\nend 4\n",
+        ),
+        (
+            plain,
+            b"show n/0. s <- a SEQ m. n <- NOT(c).[s,b].",
+            b"+ 1 a\n+ 2 m\n+ 5 m\n+ 3 c\n+ 6 b\n- 2 m\n",
+            b"ok 1\nok 2\nok 3\nok 4\nok 5\n+ 1 6 n\nok 6\nend 6\n",
+        ),
+        (
+            plain,
+            b"e <- a OR b.",
+            b"+ 4 a\n+ 4 b\n- 4 a\n- 4 b\n",
+            b"+ 4 4 e\nok 1\nok 2\nok 3\n- 4 4 e\nok 4\nend 4\n",
+        ),
+        (
+            &["run", "r", "--late", "5"],
+            AB,
+            b"+ 4611686018427387903 a(1)\n+ 1 b(1)\n",
+            b"ok 1\nno 2 below 4611686018427387898\nend 2\n",
+        ),
+        (plain, AB, b"# note", b"end 1\n"),
+        (
+            &["run", "r", "--late", "30"],
+            b"alarm(Id) <- (NOT(ack(Id,_)).[open(Id), due(Id)]) WITHIN 300.",
+            b"+ 100 open(\"O-1\")\n+ 220 due(\"O-1\")\n+ 200 ack(\"O-1\",ann)\n",
+            b"ok 1\n+ 100 220 alarm(\"O-1\")\nok 2\n- 100 220 alarm(\"O-1\")\nok 3\nend 3\n",
+        ),
+        (
+            plain,
+            AB,
+            b"+ 1 a(7\n* 1 a(7)\n+ 4611686018427387904 a\n+ 1 a(f(1,))\n- 5 b(\"x)\n# note\n\n+ 1 a(7)\n",
+            b"no 1 syntax 7\nno 2 syntax 0\nno 3 syntax 20\nno 4 syntax 10\nno 5 syntax 9\nok 8\nend 8\n",
+        ),
+        (
+            plain,
+            b"show p/0. x <- a SEQ b. y <- c SEQ d. p <- x PAR y.",
+            b"+ 1 a\n+ 3 c\n+ 5 b\n+ 9 d\n- 5 b\n+ 3 b\n",
+            b"ok 1\nok 2\nok 3\n+ 1 9 p\nok 4\n- 1 9 p\nok 5\nok 6\nend 6\n",
+        ),
+        (
+            plain,
+            AB,
+            b"! 5\n+ 4 a(7)\n- 4 a(7)\n! 4\n+ 5 a(7)\n- 5 a(7)\n+ 5 b(7)\n",
+            b"ok 1\nno 2 below 5\nno 3 below 5\nno 4 below 5\nok 5\nok 6\nok 7\nend 7\n",
+        ),
+    ];
+    for row in rows {
+        let ran = run_over(rt.alloc(), row.0, row.1, row.2, CALM)?;
+        assert_eq!(rt; ran.status, Status::Done);
+        assert_eq!(rt; ran.out.bytes(), row.3);
+        assert_eq!(rt; ran.notes.bytes(), b"".as_slice());
+    }
+    Ok(())
+}
+
+#[test]
+fn bytes_come_one_at_a_time(rt: HostRuntime) -> Result<(), Fail> {
+    let setting = Setting {
+        pieces: &[1; 48],
+        ..CALM
+    };
+    let input = b"+ 1 a(7)\n+ 5 b(7)\n+ 3 c(7)\n- 3 c(7)";
+    let ran = run_over(rt.alloc(), &["run", "r"], ABSENT, input, setting)?;
+    assert_eq!(rt; ran.status, Status::Done);
+    assert_eq!(rt;
+        ran.out.bytes(),
+        b"ok 1\n+ 1 5 n(7)\nok 2\n- 1 5 n(7)\nok 3\n+ 1 5 n(7)\nok 4\nend 4\n".as_slice()
+    );
+    Ok(())
+}
+
+// Two lines, the first of 65,537 bytes.
+#[test]
+fn a_line_is_too_long(rt: HostRuntime) -> Result<(), Fail> {
+    let mut input = vec![in rt.alloc(); b'#'; 65537]?;
+    input.extend_from_slice(b"\n+ 1 a(7)\n")?;
+    let ran = run_over(rt.alloc(), &["run", "r"], AB, &input, CALM)?;
+    assert_eq!(rt; ran.status, Status::Done);
+    assert_eq!(rt;
+        ran.out.bytes(),
+        b"no 1 syntax 65536\nok 2\nend 2\n".as_slice()
+    );
+    Ok(())
+}
+
 // Each pattern, over added events.
 #[test]
 fn patterns_find_what_the_table_says(rt: HostRuntime) -> Result<(), Fail> {
-    let absent: &[u8] = b"n(X) <- NOT(c(X)).[a(X),b(X)].";
-    let rows: [(&[u8], &[u8], &[u8]); 12] = [
-        (
-            absent,
-            b"+ 1 a(7)\n+ 5 b(7)\n+ 3 c(7)\n",
-            b"ok 1\n+ 1 5 n(7)\nok 2\n- 1 5 n(7)\nok 3\nend 3\n",
-        ),
-        (
-            b"show n/0. s <- a SEQ m. n <- NOT(c).[s,b].",
-            b"+ 1 a\n+ 2 m\n+ 5 m\n+ 3 c\n+ 6 b\n",
-            b"ok 1\nok 2\nok 3\nok 4\nok 5\nend 5\n",
-        ),
-        (
-            b"e <- a OR b.",
-            b"+ 4 a\n+ 4 b\n",
-            b"+ 4 4 e\nok 1\nok 2\nend 2\n",
-        ),
+    let rows: [(&[u8], &[u8], &[u8]); 7] = [
         (
             b"d <- a(X) AND a(X).",
             b"+ 4 a(1)\n",
@@ -145,11 +249,6 @@ fn patterns_find_what_the_table_says(rt: HostRuntime) -> Result<(), Fail> {
         ),
         (b"", b"+ 1 a\n", b"ok 1\nend 1\n"),
         (
-            b"show p/0. x <- a SEQ b. y <- c SEQ d. p <- x PAR y.",
-            b"+ 1 a\n+ 3 c\n+ 5 b\n+ 9 d\n",
-            b"ok 1\nok 2\nok 3\n+ 1 9 p\nok 4\nend 4\n",
-        ),
-        (
             b"q(X) <- c SEQ a(X).",
             b"+ 5 a(10)\n+ 5 a(2)\n+ 6 a(x)\n+ 6 a(\"x\")\n+ 1 c\n",
             b"ok 1\nok 2\nok 3\nok 4\n+ 1 5 q(2)\n+ 1 5 q(10)\n+ 1 6 q(x)\n+ 1 6 q(\"x\")\nok 5\nend 5\n",
@@ -158,11 +257,6 @@ fn patterns_find_what_the_table_says(rt: HostRuntime) -> Result<(), Fail> {
             b"n(X) <- NOT(c(X)).[a(X),b(X)]. m(X) <- a(X) SEQ c(X).",
             b"+ 1 a(7)\n+ 5 b(7)\n+ 3 c(7)\n",
             b"ok 1\n+ 1 5 n(7)\nok 2\n- 1 5 n(7)\n+ 1 3 m(7)\nok 3\nend 3\n",
-        ),
-        (
-            b"alarm(Id) <- (NOT(ack(Id,_)).[open(Id), due(Id)]) WITHIN 300.",
-            b"+ 100 open(\"O-1\")\n+ 220 due(\"O-1\")\n+ 200 ack(\"O-1\",ann)\n",
-            b"ok 1\n+ 100 220 alarm(\"O-1\")\nok 2\n- 100 220 alarm(\"O-1\")\nok 3\nend 3\n",
         ),
     ];
     for row in rows {
@@ -219,7 +313,7 @@ fn pieces_make_no_difference(rt: HostRuntime) -> Result<(), Fail> {
     assert_eq!(rt; ran.status, Status::Done);
     assert_eq!(rt;
         ran.out.bytes(),
-        b"ok 1\nok 2\nno 3 unbuilt\n+ 1 2 ab(7)\nok 4\nend 4\n".as_slice()
+        b"ok 1\nok 2\n+ 1 2 ab(7)\nok 4\nend 4\n".as_slice()
     );
     Ok(())
 }
@@ -316,11 +410,15 @@ fn refusals_write_nothing_but_their_note(rt: HostRuntime) -> Result<(), Fail> {
     let usage: &[u8] = b"etalis: usage: etalis MODE RULES [--late N] [--seed N] [--lines N]\n";
     let refused = Status::RulesRefused;
     let words: &[&str] = &["run", "r"];
-    let rows: [(&[&str], &[u8], Status, &[u8]); 16] = [
+    let rows: [(&[&str], &[u8], Status, &[u8]); 20] = [
         (&["walk", "r"], AB, Status::Usage, usage),
         (&["run"], AB, Status::Usage, usage),
         (&["run", "-r"], AB, Status::Usage, usage),
         (&["run", "r", "s"], AB, Status::Usage, usage),
+        (&["run", "r", "--late"], AB, Status::Usage, usage),
+        (&["run", "r", "--late", "-1"], AB, Status::Usage, usage),
+        (&["run", "r", "--late", "4611686018427387904"], AB, Status::Usage, usage),
+        (&["run", "r", "--later", "1"], AB, Status::Usage, usage),
         (
             words,
             b"ab(X) <- a(Y) SEQ b(Y).\n",
