@@ -1,5 +1,5 @@
 -- A machine that reads a line byte by byte, and what a line says by it.
-use Rattle.std.specs.Prelude.{ℕ, ◌+◌, ◌*◌, ◌-◌, ◌^◌, ◌<◌, ◌==◌, nat_lt, nat_le, cond, if◌then◌else◌, List, [], ◌∷◌, length, Option, Some, None}
+use Rattle.std.specs.Prelude.{ℕ, ◌+◌, ◌*◌, ◌-◌, ◌^◌, ◌<◌, ◌==◌, true, nat_lt, nat_le, cond, if◌then◌else◌, List, [], ◌∷◌, length, Option, Some, None}
 use Rattle.std.specs.Option.{option_map}
 use Rattle.ev_term.specs.Presence.{Said, Says, Fails}
 use Rattle.ev_term.specs.declared.atoms.Atom.{Atom}

@@ -1,0 +1,5 @@
+pub mod Tells
+pub mod Rests
+pub mod Runs
+pub mod Stops
+pub mod LineLaws
