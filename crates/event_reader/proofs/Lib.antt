@@ -3,3 +3,4 @@ pub mod Rests
 pub mod Runs
 pub mod Stops
 pub mod LineLaws
+pub mod Pieces

@@ -1,9 +1,12 @@
 -- Each line is heard exactly, and says one thing.
-use Rattle.std.proofs.Common.{◌≡◌, ℕ, ◌+◌, ◌<◌, ◌≤◌, ◌⊎◌, inl, inr, Bool, true, false, cond, List, length, take, Some, None, refl, sym, ap, ◌∙◌, arith, subst}
+use Rattle.std.proofs.Common.{◌≡◌, ℕ, ◌+◌, ◌<◌, ◌≤◌, ◌⊎◌, inl, inr, Bool, true, false, cond, List, length, take, Some, None, Result, Ok, Err, refl, sym, ap, ◌∙◌, arith, subst}
 use Rattle.std.specs.Prelude.{nat_le}
 use Rattle.std.proofs.lemmas.Bool.{leb-true, leb-false, le-leb, lt-leb, cond-true, cond-false}
 use Rattle.ev_term.specs.Presence.{Said, Says, Fails}
 use Rattle.ev_term.specs.declared.inputs.Input.{Input}
+use Rattle.event_reader.specs.declared.faults.LineFault.{LineFault}
+use Rattle.event_reader.specs.declared.faults.LineFault.TheVariants as fault
+use Rattle.event_reader.specs.Reads.{Heard, LineRead}
 use Rattle.event_reader.specs.EventLines.{HasForm, Begins, IsPlace, Hears}
 use Rattle.event_reader.specs.Machine.{State.Front, hear, heard}
 use Rattle.event_reader.proofs.Rests.{final, sound}
@@ -62,3 +65,9 @@ heard_short line (Fails at) (inr h) = heard_within line h.0 ∙ fails_so line at
 
 pub hears_one : (line : List ℕ) (x y : Said) → Hears line x → Hears line y → x ≡ y
 hears_one line x y h k = sym (heard_short line x h) ∙ heard_short line y k
+
+-- what the machine says of a line is what the line says
+pub heard_so : (line : List ℕ) (r : Result Input LineFault) → length line ≤ 65536 → LineRead line r → Heard line r
+heard_so line (Ok input) h e = subst (Hears line) (heard_within line h ∙ e) (heard_is line)
+heard_so line (Err (fault.Syntax at)) h e = subst (Hears line) (heard_within line h ∙ e) (heard_is line)
+heard_so line (Err fault.Memory) h e = tt
