@@ -1,12 +1,16 @@
 -- Bytes with their lines cut, and how many stand behind the last line feed.
-use Rattle.std.proofs.Common.{◌≡◌, ℕ, suc, zero, ◌+◌, ◌-◌, ◌<◌, ◌≤◌, Bool, true, false, cond, ◌==◌, ◌||◌, ltb, List, [], ◌∷◌, ◌++◌, length, take, drop, refl, ap, sym, subst, ◌∙◌, arith, true≢false, append-nil, append_assoc, take_all, length-take-le, length-append, lit<}
-use Rattle.std.specs.List.{list_any}
+use Rattle.std.proofs.Common.{not, get_or, Some, None, MatchOption, ◌≡◌, ℕ, suc, zero, ◌+◌, ◌-◌, ◌<◌, ◌≤◌, Bool, true, false, cond, ◌==◌, ◌||◌, ltb, List, [], ◌∷◌, ◌++◌, length, take, drop, refl, ap, sym, subst, ◌∙◌, arith, true≢false, append-nil, append_assoc, take_all, length-take-le, length-append, lit<}
+use Rattle.std.specs.List.{list_any, position, position_or_len}
+use Rattle.std.proofs.Math.Numerals.{one-add}
+use Rattle.std.proofs.lemmas.Bool.{eqb-true}
+use Rattle.std.proofs.lemmas.List.Quantifiers.{position-Some}
+use Rattle.std.proofs.lemmas.List.Sums.{split_at_first}
 use Rattle.std.proofs.lemmas.List.Folds.{list_any-append}
 use Rattle.ev_term.specs.Lines.{without_cr}
 use Rattle.line_reader.specs.declared.reading.Line.{Line}
 use Rattle.line_reader.specs.declared.reading.Line.TheVariants.{Bytes, Long}
 use Rattle.line_reader.specs.Cutting.{NoFeed, IsLine}
-use Rattle.line_reader.specs.Keeping.{clipped_from, open_from}
+use Rattle.line_reader.specs.Keeping.{clipped_from, open_from, IsFirstFeed}
 use Rattle.line_reader.proofs.CutLaws.{no_feed-parts}
 
 abbrev is_feed : ℕ → Bool
@@ -147,6 +151,33 @@ one_first (x ∷ xs) (y ∷ ys) more left h k e =
     let tails : xs ++ 10 ∷ more ≡ ys ++ 10 ∷ left = cc in
     let p = one_first xs ys more left (no_feed-parts x xs h).1 (no_feed-parts y ys k).1 tails in
     (cc, p.1)
+
+plain_before : (bytes : List ℕ) → NoFeed (take (position_or_len is_feed bytes) bytes)
+plain_before [] = refl
+plain_before (b ∷ bytes) = at (b == 10) refl (plain_before bytes)
+  where
+    at : (t : Bool) → (b == 10) ≡ t → NoFeed (take (position_or_len is_feed bytes) bytes) → NoFeed (take (cond (not t) (1 + position_or_len is_feed bytes) 0) (b ∷ bytes))
+    at true e h = refl
+    at false e h =
+        let long : 1 + position_or_len is_feed bytes ≡ suc (position_or_len is_feed bytes) = one-add (position_or_len is_feed bytes) in
+        subst (λ n. NoFeed (take n (b ∷ bytes))) (sym long) (ap (λ t. t || list_any is_feed (take (position_or_len is_feed bytes) bytes)) e ∙ h)
+
+-- where the first line feed stands
+pub first_feed : (bytes : List ℕ) → MatchOption (position is_feed bytes) (NoFeed bytes) (λ n. IsFirstFeed n bytes)
+first_feed bytes = at (ltb (position_or_len is_feed bytes) (length bytes)) refl
+  where
+    at : (t : Bool) → ltb (position_or_len is_feed bytes) (length bytes) ≡ t → MatchOption (cond t (Some (position_or_len is_feed bytes)) None) (NoFeed bytes) (λ n. IsFirstFeed n bytes)
+    at true e =
+        let found = position-Some is_feed bytes (position_or_len is_feed bytes) 0 (ap (λ t. cond t (Some (position_or_len is_feed bytes)) None) e) in
+        let feed : get_or bytes (position_or_len is_feed bytes) 0 ≡ 10 = eqb-true (get_or bytes (position_or_len is_feed bytes) 0) 10 found.1 in
+        record {
+          within = found.0;
+          parts = split_at_first is_feed bytes 0 found.0 ∙ ap (λ b. take (position_or_len is_feed bytes) bytes ++ b ∷ drop (position_or_len is_feed bytes + 1) bytes) feed;
+          plain = plain_before bytes;
+        }
+    at false e =
+        let past : length bytes ≤ position_or_len is_feed bytes = grind arith in
+        subst NoFeed (take_all (position_or_len is_feed bytes) bytes past) (plain_before bytes)
 
 -- ---- what is said of a line that was cut
 
