@@ -7,3 +7,4 @@ pub mod TopLaws
 pub mod NoteLaws
 pub mod WordLaws
 pub mod OutputLaws
+pub mod ReplyLaws
