@@ -8,7 +8,7 @@ mkdir -p "$work"
 echo 'ab(X) <- a(X) SEQ b(X).' > "$work/small.rules"
 : > "$work/none"
 awk 'BEGIN { for (n = 0; n < 1000000; n++) printf "+ %d unused(%d,\"text\",f(x))\n", n % 100, n % 100 }' > "$work/unused"
-awk 'BEGIN { for (n = 0; n < 300; n++) printf "%s %d %s(%d)\n", n % 10 == 9 ? "-" : "+", n % 10 == 9 ? n - 9 : n, n % 2 && n % 10 != 9 ? "b" : "a", n % 10 == 9 ? (n - 9) % 6 : n % 6 }' > "$work/whole"
+awk 'BEGIN { for (n = 0; n < 300; n++) printf "%s %d %s(%d)\n", n % 10 == 9 ? "-" : "+", n % 10 == 9 ? n - 9 : n, n % 2 && n % 10 != 9 ? "b" : "a", n % 10 == 9 ? (n - 9) % 5 : n % 5 }' > "$work/whole"
 "$top/etalis" run "$work/small.rules" < "$work/none" > /dev/null
 
 # The least of five runs over a file of lines, in microseconds.

@@ -6,3 +6,4 @@ pub mod RuleLaws
 pub mod TopLaws
 pub mod NoteLaws
 pub mod WordLaws
+pub mod OutputLaws

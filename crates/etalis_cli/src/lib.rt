@@ -3,6 +3,7 @@
 
 mod accepting;
 mod feeding;
+mod laws;
 mod notes;
 mod refusals;
 mod replying;
@@ -13,6 +14,7 @@ mod top;
 mod words;
 
 pub use accepting::files_have_one_meaning;
+pub use laws::what_is_written_stands;
 pub use serving::{ServeFault, serve};
 pub use session::Session;
 pub use status::Status;

@@ -1,1 +1,4 @@
 pub mod EventLines
+pub mod Machine
+pub mod Faults
+pub mod Reads

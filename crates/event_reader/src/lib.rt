@@ -1,2 +1,14 @@
-//! To come.
+//! Reads lines of the input, with the exact place of each fault.
 #![tactic(auto)]
+
+mod events;
+mod faults;
+mod parts;
+mod peeking;
+mod reading;
+mod times;
+
+pub use ev_term::{Input, Judgement};
+pub use faults::LineFault;
+pub use line_reader::{Line, LineReader};
+pub use reading::{lines_are_heard_exactly, parse_line};

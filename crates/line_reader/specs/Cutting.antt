@@ -1,6 +1,6 @@
 -- What a reader of lines gives of the bytes that it holds.
 use Rattle.std.specs.Prelude.{◌≡◌, ◌≢◌, ℕ, ◌<◌, ◌≤◌, Bool, true, false, ◌==◌, List, [], ◌∷◌, ◌++◌, length, Option, Some, None}
-use Rattle.std.specs.List.{list_any}
+use Rattle.std.specs.List.{list_any, flat_map}
 use Rattle.ev_term.specs.Lines.{without_cr}
 use Rattle.line_reader.specs.declared.reading.Line.{Line}
 use Rattle.line_reader.specs.declared.reading.Line.TheVariants.{Bytes, Long}
@@ -13,3 +13,12 @@ NoFeed bytes = list_any (λ b. b == 10) bytes ≡ false
 abbrev pub IsLine : Line → List ℕ → Type 0
 IsLine (Bytes line) raw = (line.now ≡ without_cr raw) × (length (without_cr raw) ≤ 65536)
 IsLine Long raw = 65536 < length (without_cr raw)
+
+-- no line feed is among the bytes of any
+abbrev pub AreLines : List (List ℕ) → Type 0
+AreLines [] = Unit {0}
+AreLines (raw ∷ raws) = NoFeed raw × AreLines raws
+
+-- these lines, each with its line feed
+abbrev pub with_feeds : List (List ℕ) → List ℕ
+with_feeds raws = flat_map (λ raw. raw ++ 10 ∷ []) raws

@@ -1,5 +1,5 @@
-// The rows of the bodies of rules. A chain without brackets is gone down and up again by loops: only right operands and the
-// parts of a NOT are recursed into.
+// The rows of the bodies of rules. A chain without brackets is gone down and up again by loops, and an atom or a NOT in it has no
+// level of its own: `pattern_rows` calls itself only for what stands in a bracket.
 ghost use Rattle.std.specs.Prelude.{◌≡◌, ◌++◌, None, IfOk, OnOk};
 ghost use Rattle.std.specs.List.{flat_map};
 ghost use Rattle.std.specs.Option.{option_map};
@@ -73,6 +73,21 @@ fn first_rows(alloc: Global, found: &[Detection], first: &Pattern) -> Result<Vec
     }
 }
 
+// The rows of a right operand: an atom, a NOT, or a pattern in brackets.
+#[cycle(bodies)]
+fn operand_rows(
+    alloc: Global,
+    found: &[Detection],
+    operand: &Pattern,
+) -> Result<Vec<Row>, AllocError>
+    ensures { IfOk result (λ v. v.items ≡ rows (named_in found.now) (plain_pattern operand.now)) }
+{
+    match left_part(operand) {
+        None => first_rows(alloc, found, operand),
+        Some(_) => pattern_rows(alloc, found, operand),
+    }
+}
+
 // The rows of a pattern, from those of its left part.
 #[cycle(bodies)]
 fn rows_over(
@@ -85,12 +100,12 @@ fn rows_over(
 {
     match whole {
         Pattern::Both(op, _, right) => {
-            let right_rows = pattern_rows(alloc, found, right)?;
+            let right_rows = operand_rows(alloc, found, right)?;
             join_rows(alloc, *op, &left_rows, &right_rows)
         }
         Pattern::Either(_, right) => {
             let mut either = left_rows;
-            let mut more = pattern_rows(alloc, found, right)?;
+            let mut more = operand_rows(alloc, found, right)?;
             either.append(&mut more)?;
             in_order(either)
         }

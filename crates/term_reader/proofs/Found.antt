@@ -19,7 +19,7 @@ use Rattle.term_reader.proofs.Canonical.{run_on, same_tree, fault_is_memory}
 same_state : {x y : State} → Some x ≡ Some y → x ≡ y
 same_state e = cc
 
-leads_walk : (a : Wanted) (front : List ℕ) (s to : State) → FineState true a s → walk true (signs front) s ≡ Some to → Leads a s front to
+pub leads_walk : (a : Wanted) (front : List ℕ) (s to : State) → FineState true a s → walk true (signs front) s ≡ Some to → Leads a s front to
 unfolding signs
 leads_walk a [] s to f e = subst (Leads a s []) (same_state e) (stays a s f)
 leads_walk a (b ∷ front) s to f e = at (step true s (sign_of b)) refl e (step_fine true a s (sign_of b) f) (leads_walk a front)

@@ -104,7 +104,7 @@ said_fine a (Behind t (Top b) NoBlank) f = (subst (λ x. Fine true x t) (sym f.2
 said_fine a (Behind t (Top b) c) f = absurd f.1
 said_fine a s f = tt
 
-said_reads : (a : Wanted) (s : State) (t : Tree) → FineState true a s → said s ≡ Some t → Fine true a t × (so_far s [] ≡ tree t [])
+pub said_reads : (a : Wanted) (s : State) (t : Tree) → FineState true a s → said s ≡ Some t → Fine true a t × (so_far s [] ≡ tree t [])
 said_reads a s t f e = MatchOption-at_some (Unit {0}) (λ t. Fine true a t × (so_far s [] ≡ tree t [])) t e (said_fine a s f)
 
 -- a tree whose bytes are front is said there

@@ -38,6 +38,7 @@ pub fn read_atom(alloc: Global, bytes: &[u8], at: usize) -> Result<(Atom, usize)
     ensures read { AtomRead bytes.now at result }
     ensures found { AtomFound bytes.now at result }
     ensures canonical { AtomBack bytes.now at result }
+    ensures steps { AtomGiven bytes.now at result }
 {
     atom_at(alloc, bytes, at)
 }

@@ -8,13 +8,16 @@ use Rattle.pattern_meaning.proofs.ClimbingLaws.{size}
 use Rattle.pattern_meaning.proofs.bodies.+bodies.Given as goal
 
 abbrev pub decreases-pattern_rows : goal.decreases-pattern_rows
-decreases-pattern_rows l = 2 * size (plain_pattern l.pattern.now) + 1
+decreases-pattern_rows l = 3 * size (plain_pattern l.pattern.now) + 1
 
 abbrev pub decreases-first_rows : goal.decreases-first_rows
-decreases-first_rows l = 2 * size (plain_pattern l.first.now)
+decreases-first_rows l = 3 * size (plain_pattern l.first.now)
+
+abbrev pub decreases-operand_rows : goal.decreases-operand_rows
+decreases-operand_rows l = 3 * size (plain_pattern l.operand.now) + 2
 
 abbrev pub decreases-rows_over : goal.decreases-rows_over
-decreases-rows_over l = 2 * size (plain_pattern l.whole.now)
+decreases-rows_over l = 3 * size (plain_pattern l.whole.now)
 
 -- what the way so far makes of the rows of what is left
 abbrev pub invariant-pattern_rows-loop-left : goal.invariant-pattern_rows-loop-left

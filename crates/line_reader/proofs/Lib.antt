@@ -1,0 +1,4 @@
+pub mod CutLaws
+pub mod KeepLaws
+mod ReturnLaws
+mod HoldLaws
