@@ -1,2 +1,12 @@
-//! To come.
+//! An engine over rules: it takes inputs one at a time, and tells after each what changed of the detections that stand.
 #![tactic(auto)]
+
+mod engine;
+mod faults;
+mod judging;
+mod missing;
+mod present;
+mod table;
+
+pub use engine::Engine;
+pub use faults::{EngineFault, StartFault};

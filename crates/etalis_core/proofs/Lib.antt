@@ -1,0 +1,6 @@
+pub mod HistoryLaws
+mod NumberLaws
+mod KeptLaws
+mod TableLaws
+mod SearchedLaws
+mod EngineLaws
