@@ -94,19 +94,19 @@ drained_line s part piece got t u a b p q d raw more e plain h text next =
 -- no line is left
 pub drained_all : (s : State) (part piece : List ℕ) (got sent : Option (List ℕ)) (session : Session) (reader : LineReader) (d : Drained s part piece got sent session reader) → NoFeed part → NoFeed d.left
     → FedTo (record { state = s; part = part; got = got }) session reader sent piece
-drained_all s part piece got sent session reader d open plain =
+drained_all s part piece got sent session reader d whole plain =
     let lines : ended d.left ≡ [] = ended-open d.left plain in
     let f : Feeds (record { state = s; part = []; got = got }) (record { state = d.reached; part = d.left; got = sent }) (d.done ++ d.left) = feeds_more _ (record { state = d.reached; part = []; got = sent }) _ d.done d.left d.feeds (record {
       state = ap (after d.reached) (sym lines);
       part = sym (rest-open d.left plain);
       got = sym (append_known-nil sent) ∙ ap (λ l. append_known sent (replies d.reached l)) (sym lines);
     }) in
-    let same_ended : ended (d.done ++ d.left) ≡ ended_from part piece = ap ended (sym d.whole) ∙ sym (ended-front part piece open) in
-    let same_rest : rest (d.done ++ d.left) ≡ rest_from part piece = ap rest (sym d.whole) ∙ sym (rest-front part piece open) in
+    let same_ended : ended (d.done ++ d.left) ≡ ended_from part piece = ap ended (sym d.whole) ∙ sym (ended-front part piece whole) in
+    let same_rest : rest (d.done ++ d.left) ≡ rest_from part piece = ap rest (sym d.whole) ∙ sym (rest-front part piece whole) in
     record {
       reached = d.reached;
       rest = d.left;
-      between = record { stands = d.stands; holds = d.holds; open = plain };
+      between = record { stands = d.stands; holds = d.holds; plain = plain };
       feeds = record {
         state = f.state ∙ ap (after s) same_ended;
         part = f.part ∙ same_rest;

@@ -26,7 +26,7 @@ pub record Feeds (old new : Kept) (piece : List ℕ) : Type 0 where
 pub record Between (session : Session) (reader : LineReader) (s : State) (part : List ℕ) : Type 0 where
   pub stands : StandsFor session s
   pub holds : Holds reader part
-  pub open : NoFeed part
+  pub plain : NoFeed part
 
 -- the piece was taken, and the session and the reader stand for what was reached
 pub record FedTo (old : Kept) (session : Session) (reader : LineReader) (sent : Option (List ℕ)) (piece : List ℕ) : Type 0 where

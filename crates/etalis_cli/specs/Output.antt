@@ -4,7 +4,7 @@ use Rattle.std.specs.List.{flat_map}
 use Rattle.std.proofs.Common.{ap}
 use Rattle.ev_term.specs.Lines.{lines_of}
 use Rattle.rule_ast.specs.Trees.{PlainStatement}
-use Rattle.pattern_meaning.specs.Replies as replies
+use Rattle.pattern_meaning.specs.Replies as told
 use Rattle.pattern_meaning.specs.Replies.{State, after_said, after_all, reply_to_said, replies_to, reply_text, end_text}
 use Rattle.event_reader.specs.Machine.{heard}
 
@@ -15,7 +15,7 @@ pub record Setting : Type 0 where
 
 -- before the first line
 abbrev pub start : Setting → State
-start w = replies.start w.rules w.late
+start w = told.start w.rules w.late
 
 abbrev pub after_line : State → List ℕ → State
 after_line s line = after_said s (heard line)

@@ -133,9 +133,9 @@ pub fn reply_line(
     out: &mut Vec<u8>,
 ) -> Result<(), AllocError>
     requires { (h : List Input) × StandsFor engine.old h × (length h < 2 ^ 63) }
-    ensures stands { (h : List Input) (raw : List ℕ) → StandsFor engine.old h → IsLine line raw
+    ensures stands { (h : List Input) (raw : List ℕ) → StandsFor engine.old h → IsLine line.entry raw
         → OnOk result (StandsFor engine.new (after_verdict h (verdict (late_of engine.old) h (heard (without_cr raw))))) }
-    ensures text { (h : List Input) (raw : List ℕ) → StandsFor engine.old h → IsLine line raw
+    ensures text { (h : List Input) (raw : List ℕ) → StandsFor engine.old h → IsLine line.entry raw
         → OnOk result (out.new.items ≡ out.old.items ++ reply_text (reply (rules_of engine.old) h number (verdict (late_of engine.old) h (heard (without_cr raw))))) }
     ensures rules { OnOk result (rules_of engine.new ≡ rules_of engine.old) }
     ensures late { OnOk result (late_of engine.new ≡ late_of engine.old) }

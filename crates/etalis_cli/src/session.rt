@@ -50,9 +50,9 @@ impl Session {
     /// should follow one.
     pub fn answer(&mut self, line: Line<'_>, out: &mut Vec<u8>) -> Result<(), AllocError>
         requires { (s : State) × StandsFor self.old s × (s.count < 2 ^ 63) }
-        ensures reply { (s : State) (raw : List ℕ) → StandsFor self.old s → IsLine line raw
+        ensures reply { (s : State) (raw : List ℕ) → StandsFor self.old s → IsLine line.entry raw
             → OnOk result (out.new.items ≡ out.old.items ++ reply_to s (without_cr raw)) }
-        ensures after { (s : State) (raw : List ℕ) → StandsFor self.old s → IsLine line raw
+        ensures after { (s : State) (raw : List ℕ) → StandsFor self.old s → IsLine line.entry raw
             → OnOk result (StandsFor self.new (after_line s (without_cr raw))) }
     {
         let number = self.count + 1;
