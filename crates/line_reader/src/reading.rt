@@ -82,7 +82,7 @@ impl LineReader {
     pub fn next_line(&mut self) -> Option<Line<'_>>
         ensures line { (bytes : List ℕ) → Holds self.old bytes → MatchOption result (NoFeed bytes)
             (λ line. (raw : List ℕ) × (more : List ℕ) × (bytes ≡ raw ++ 10 ∷ more) × NoFeed raw × IsLine line raw) }
-        ensures* after_borrow { sem 𝓛 (Rests the_row self.entry (λ new. MovesOn self.old new)) }
+        ensures* after_borrow { sem 𝓛 (Rests the_row self.entry (λ new. MovesOn self.old result new)) }
     {
         let length = self.first_length()?;
         let start = self.at;
