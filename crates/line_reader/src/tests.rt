@@ -46,9 +46,9 @@ fn gives_lines_and_the_last(rt: HostRuntime) -> Result<(), Fail> {
 #[test]
 fn tells_a_long_line(rt: HostRuntime) -> Result<(), Fail> {
     let mut reader = LineReader::new(rt.alloc());
-    let line = [b'a'; 8192];
-    for _ in 0..9 {
-        reader.feed(&line[..8000])?;
+    let line = vec![in rt.alloc(); b'a'; 70_000]?;
+    for piece in line.chunks(8192) {
+        reader.feed(piece)?;
     }
     reader.feed(b"\nb\n")?;
     let lengths = lengths(rt.alloc(), &mut reader)?;
