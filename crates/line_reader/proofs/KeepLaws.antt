@@ -67,6 +67,16 @@ clipped-open n room (b ∷ bytes) h e =
         let fits : ltb n 65538 ≡ true = grind arith in
         ap (λ t. cond t (b ∷ clipped_from (n + 1) bytes) (clipped_from n bytes)) fits ∙ ap (λ l. b ∷ l) (next room (omega arith))
 
+pub clipped-most : (n : ℕ) (bytes : List ℕ) → length (clipped_from n bytes) ≤ length bytes
+clipped-most n [] = omega arith
+clipped-most n (b ∷ bytes) = at (b == 10) (ltb n 65538) (clipped-most 0 bytes) (clipped-most (n + 1) bytes) (clipped-most n bytes)
+  where
+    at : (t u : Bool) → length (clipped_from 0 bytes) ≤ length bytes → length (clipped_from (n + 1) bytes) ≤ length bytes → length (clipped_from n bytes) ≤ length bytes
+        → length (cond t (b ∷ clipped_from 0 bytes) (cond u (b ∷ clipped_from (n + 1) bytes) (clipped_from n bytes))) ≤ length (b ∷ bytes)
+    at true u first next over = omega arith
+    at false true first next over = omega arith
+    at false false first next over = omega arith
+
 -- ---- the length of the open line
 
 pub open-append : (n : ℕ) (xs ys : List ℕ) → open_from n (xs ++ ys) ≡ open_from (open_from n xs) ys

@@ -1,5 +1,5 @@
 // A reader that holds the bytes of lines that weren't given yet.
-ghost use Rattle.std.specs.Prelude.{◌≡◌, ◌≢◌, ◌==◌, ℕ, ◌+◌, ◌<◌, ◌≤◌, List, [], ◌∷◌, ◌++◌, length, take, drop, MatchOption, OnOk, OnErr, IfOk, vec_len};
+ghost use Rattle.std.specs.Prelude.{◌≡◌, ◌≢◌, ◌==◌, ℕ, ◌+◌, ◌*◌, ◌<◌, ◌≤◌, List, [], ◌∷◌, ◌++◌, length, take, drop, MatchOption, OnOk, OnErr, IfOk, vec_len};
 ghost use Rattle.std.specs.List.{position};
 ghost use Rattle.ev_term.specs.Lines.{without_cr};
 ghost use Rattle.line_reader.specs.Cutting.{NoFeed, IsLine};
@@ -33,7 +33,7 @@ pub struct LineReader {
 }
 
 impl LineReader {
-    ghost use Rattle.line_reader.specs.Holding.{Holds, MovesOn};
+    ghost use Rattle.line_reader.specs.Holding.{Holds, MovesOn, bytes_kept, bytes_stored};
     ghost use Rattle.line_reader.specs.contracts.reading.LineReader.{the_row};
     ghost use Rattle.std.specs.Borrow.{sem};
     ghost use Rattle.std.specs.Io.BufRead.{Rests};
@@ -53,6 +53,7 @@ impl LineReader {
     pub fn feed(&mut self, piece: &[u8]) -> Result<(), AllocError>
         ensures ok { (bytes : List ℕ) → Holds self.old bytes → OnOk result (Holds self.new (bytes ++ piece.now)) }
         ensures err { (bytes : List ℕ) → Holds self.old bytes → OnErr result (Holds self.new bytes) }
+        ensures room { bytes_stored self.new ≤ 2 * bytes_kept self.old + length piece.now }
     {
         self.drop_given();
         let before = self.held.len();
@@ -70,7 +71,8 @@ impl LineReader {
 
     // Makes room where at least half of the bytes were given, so that each byte is moved once on average.
     fn drop_given(&mut self)
-        ensures { drop self.new.at self.new.held.items ≡ drop self.old.at self.old.held.items }
+        ensures kept { drop self.new.at self.new.held.items ≡ drop self.old.at self.old.held.items }
+        ensures room { bytes_stored self.new ≤ 2 * bytes_kept self.old }
     {
         if self.held.len() - self.at <= self.at {
             drop(self.held.drain(..self.at));
