@@ -1,7 +1,5 @@
-use Rattle.std.proofs.Common.{◌≡◌, ℕ, List, [], ◌∷◌, ◌++◌, map, length, min, refl, ap, sym, subst, ◌∙◌, append_assoc, append-nil, arith}
+use Rattle.std.proofs.Common.{◌≡◌, ℕ, List, [], ◌∷◌, ◌++◌, map, length, min, ap, sym, subst, ◌∙◌, append_assoc, append-nil, arith}
 use Rattle.ev_term.specs.Lines.{without_cr, ended, rest}
-use Rattle.line_reader.specs.declared.reading.Line.{Line}
-use Rattle.line_reader.specs.declared.reading.Line.TheVariants.{Bytes, Long}
 use Rattle.line_reader.specs.Cutting.{NoFeed, IsLine}
 use Rattle.line_reader.specs.Holding.{Holds}
 use Rattle.line_reader.proofs.CutLaws.{ended-line, rest-line, ended-open, rest-open}

@@ -1,4 +1,4 @@
-use Rattle.std.proofs.Common.{rules, drop, refl, sym, ap, subst, ◌∙◌, arith, length-drop, true≢false}
+use Rattle.std.proofs.Common.{drop, refl, sym, subst, ◌∙◌, arith, length-drop, true≢false}
 use Rattle.line_reader.specs.Cutting.{NoFeed, IsLine}
 use Rattle.line_reader.proofs.KeepLaws.{open-plain}
 use Rattle.line_reader.proofs.HoldLaws.{no_line, never_both, never_open, has_line, behind_line, still_open, slice_first}
