@@ -69,13 +69,13 @@ impl LineReader {
         }
     }
 
-    // Makes room where at least half of the bytes were given, so that each byte is moved once on average.
+    // Forgets the bytes that were given where they are at least half, so that each byte is moved once on average.
     fn drop_given(&mut self)
         ensures kept { drop self.new.at self.new.held.items ≡ drop self.old.at self.old.held.items }
         ensures room { bytes_stored self.new ≤ 2 * bytes_kept self.old }
     {
         if self.held.len() - self.at <= self.at {
-            drop(self.held.drain(..self.at));
+            drop_front(&mut self.held, self.at);
             self.at = 0;
         }
     }
@@ -120,6 +120,15 @@ impl LineReader {
             Some(told(raw))
         }
     }
+}
+
+fn drop_front(held: &mut Vec<u8>, count: usize)
+    requires { count ≤ vec_len held.old }
+    ensures { held.new.items ≡ drop count held.old.items }
+{
+    let length = held.len();
+    held.as_mut_slice().copy_within(count..length, 0);
+    held.truncate(length - count);
 }
 
 // A line without the one carriage return at its end, or that it is too long.
