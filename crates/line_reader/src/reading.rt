@@ -1,6 +1,5 @@
 // A reader that holds the bytes of lines that weren't given yet.
-ghost use Rattle.std.specs.Prelude.{◌≡◌, ◌≢◌, ◌==◌, ℕ, ◌+◌, ◌*◌, ◌<◌, ◌≤◌, List, [], ◌∷◌, ◌++◌, length, take, drop, MatchOption, OnOk, OnErr, IfOk, vec_len};
-ghost use Rattle.std.specs.List.{position};
+ghost use Rattle.std.specs.Prelude.{◌≡◌, ◌≢◌, ℕ, ◌+◌, ◌*◌, ◌<◌, ◌≤◌, List, [], ◌∷◌, ◌++◌, length, take, drop, MatchOption, OnOk, OnErr, IfOk, vec_len};
 ghost use Rattle.ev_term.specs.Lines.{without_cr};
 ghost use Rattle.line_reader.specs.Cutting.{NoFeed, IsLine};
 ghost use Rattle.line_reader.specs.Keeping.{clipped_from, open_from, IsFirstFeed};
