@@ -1,11 +1,10 @@
 -- Bytes with their lines cut, and how many stand behind the last line feed.
-use Rattle.std.proofs.Common.{not, get_or, Some, None, MatchOption, ◌≡◌, ℕ, suc, zero, ◌+◌, ◌-◌, ◌<◌, ◌≤◌, Bool, true, false, cond, ◌==◌, ◌||◌, ltb, List, [], ◌∷◌, ◌++◌, length, take, drop, refl, ap, sym, subst, ◌∙◌, arith, true≢false, append-nil, append_assoc, take_all, length-take-le, length-append, lit<}
+use Rattle.std.proofs.Common.{not, get_or, Some, None, MatchOption, ◌≡◌, ℕ, suc, zero, ◌+◌, ◌<◌, ◌≤◌, Bool, true, false, cond, ◌==◌, ◌||◌, ltb, List, [], ◌∷◌, ◌++◌, length, take, drop, refl, ap, sym, subst, ◌∙◌, arith, true≢false, take_all, length-take-le, lit<}
 use Rattle.std.specs.List.{list_any, position, position_or_len}
 use Rattle.std.proofs.Math.Numerals.{one-add}
 use Rattle.std.proofs.lemmas.Bool.{eqb-true}
 use Rattle.std.proofs.lemmas.List.Quantifiers.{position-Some}
 use Rattle.std.proofs.lemmas.List.Sums.{split_at_first}
-use Rattle.std.proofs.lemmas.List.Folds.{list_any-append}
 use Rattle.ev_term.specs.Lines.{without_cr}
 use Rattle.line_reader.specs.declared.reading.Line.{Line}
 use Rattle.line_reader.specs.declared.reading.Line.TheVariants.{Bytes, Long}
@@ -66,6 +65,16 @@ clipped-open n room (b ∷ bytes) h e =
     at (suc room) e over next =
         let fits : ltb n 65538 ≡ true = grind arith in
         ap (λ t. cond t (b ∷ clipped_from (n + 1) bytes) (clipped_from n bytes)) fits ∙ ap (λ l. b ∷ l) (next room (omega arith))
+
+pub clipped-most : (n : ℕ) (bytes : List ℕ) → length (clipped_from n bytes) ≤ length bytes
+clipped-most n [] = omega arith
+clipped-most n (b ∷ bytes) = at (b == 10) (ltb n 65538) (clipped-most 0 bytes) (clipped-most (n + 1) bytes) (clipped-most n bytes)
+  where
+    at : (t u : Bool) → length (clipped_from 0 bytes) ≤ length bytes → length (clipped_from (n + 1) bytes) ≤ length bytes → length (clipped_from n bytes) ≤ length bytes
+        → length (cond t (b ∷ clipped_from 0 bytes) (cond u (b ∷ clipped_from (n + 1) bytes) (clipped_from n bytes))) ≤ length (b ∷ bytes)
+    at true u first next over = omega arith
+    at false true first next over = omega arith
+    at false false first next over = omega arith
 
 -- ---- the length of the open line
 

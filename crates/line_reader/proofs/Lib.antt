@@ -1,4 +1,4 @@
 pub mod CutLaws
-pub mod KeepLaws
+mod KeepLaws
 mod ReturnLaws
 mod HoldLaws

@@ -1,5 +1,5 @@
 -- What a reader of lines gives of the bytes that it holds.
-use Rattle.std.specs.Prelude.{◌≡◌, ◌≢◌, ℕ, ◌<◌, ◌≤◌, Bool, true, false, ◌==◌, List, [], ◌∷◌, ◌++◌, length, Option, Some, None}
+use Rattle.std.specs.Prelude.{◌≡◌, ℕ, ◌<◌, ◌≤◌, false, ◌==◌, List, [], ◌∷◌, ◌++◌, length}
 use Rattle.std.specs.List.{list_any, flat_map}
 use Rattle.ev_term.specs.Lines.{without_cr}
 use Rattle.line_reader.specs.declared.reading.Line.{Line}

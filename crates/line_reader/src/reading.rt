@@ -1,6 +1,5 @@
 // A reader that holds the bytes of lines that weren't given yet.
-ghost use Rattle.std.specs.Prelude.{◌≡◌, ◌≢◌, ◌==◌, ℕ, ◌+◌, ◌<◌, ◌≤◌, List, [], ◌∷◌, ◌++◌, length, take, drop, MatchOption, OnOk, OnErr, IfOk, vec_len};
-ghost use Rattle.std.specs.List.{position};
+ghost use Rattle.std.specs.Prelude.{◌≡◌, ◌≢◌, ℕ, ◌+◌, ◌*◌, ◌<◌, ◌≤◌, List, [], ◌∷◌, ◌++◌, length, take, drop, MatchOption, OnOk, OnErr, IfOk, vec_len};
 ghost use Rattle.ev_term.specs.Lines.{without_cr};
 ghost use Rattle.line_reader.specs.Cutting.{NoFeed, IsLine};
 ghost use Rattle.line_reader.specs.Keeping.{clipped_from, open_from, IsFirstFeed};
@@ -33,7 +32,7 @@ pub struct LineReader {
 }
 
 impl LineReader {
-    ghost use Rattle.line_reader.specs.Holding.{Holds, MovesOn};
+    ghost use Rattle.line_reader.specs.Holding.{Holds, MovesOn, bytes_kept, bytes_stored};
     ghost use Rattle.line_reader.specs.contracts.reading.LineReader.{the_row};
     ghost use Rattle.std.specs.Borrow.{sem};
     ghost use Rattle.std.specs.Io.BufRead.{Rests};
@@ -53,6 +52,7 @@ impl LineReader {
     pub fn feed(&mut self, piece: &[u8]) -> Result<(), AllocError>
         ensures ok { (bytes : List ℕ) → Holds self.old bytes → OnOk result (Holds self.new (bytes ++ piece.now)) }
         ensures err { (bytes : List ℕ) → Holds self.old bytes → OnErr result (Holds self.new bytes) }
+        ensures room { bytes_stored self.new ≤ 2 * bytes_kept self.old + length piece.now }
     {
         self.drop_given();
         let before = self.held.len();
@@ -68,12 +68,13 @@ impl LineReader {
         }
     }
 
-    // Makes room where at least half of the bytes were given, so that each byte is moved once on average.
+    // Forgets the bytes that were given where they are at least half, so that each byte is moved once on average.
     fn drop_given(&mut self)
-        ensures { drop self.new.at self.new.held.items ≡ drop self.old.at self.old.held.items }
+        ensures kept { drop self.new.at self.new.held.items ≡ drop self.old.at self.old.held.items }
+        ensures room { bytes_stored self.new ≤ 2 * bytes_kept self.old }
     {
         if self.held.len() - self.at <= self.at {
-            drop(self.held.drain(..self.at));
+            drop_front(&mut self.held, self.at);
             self.at = 0;
         }
     }
@@ -82,7 +83,7 @@ impl LineReader {
     pub fn next_line(&mut self) -> Option<Line<'_>>
         ensures line { (bytes : List ℕ) → Holds self.old bytes → MatchOption result (NoFeed bytes)
             (λ line. (raw : List ℕ) × (more : List ℕ) × (bytes ≡ raw ++ 10 ∷ more) × NoFeed raw × IsLine line raw) }
-        ensures* after_borrow { sem 𝓛 (Rests the_row self.entry (λ new. MovesOn self.old new)) }
+        ensures* after_borrow { sem 𝓛 (Rests the_row self.entry (λ new. MovesOn self.old result new)) }
     {
         let length = self.first_length()?;
         let start = self.at;
@@ -118,6 +119,15 @@ impl LineReader {
             Some(told(raw))
         }
     }
+}
+
+fn drop_front(held: &mut Vec<u8>, count: usize)
+    requires { count ≤ vec_len held.old }
+    ensures { held.new.items ≡ drop count held.old.items }
+{
+    let length = held.len();
+    held.as_mut_slice().copy_within(count..length, 0);
+    held.truncate(length - count);
 }
 
 // A line without the one carriage return at its end, or that it is too long.

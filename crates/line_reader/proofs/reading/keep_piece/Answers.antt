@@ -1,4 +1,4 @@
-use Rattle.std.proofs.Common.{◌+◌, ◌++◌, ◌∷◌, [], take, refl, sym, ap, ◌∙◌, arith, length, length-drop}
+use Rattle.std.proofs.Common.{◌+◌, ◌++◌, refl, sym, ap, ◌∙◌, arith, length, length-drop}
 use Rattle.line_reader.specs.Keeping.{clipped_from, open_from}
 use Rattle.line_reader.proofs.HoldLaws.{slice_behind, piece_kept, piece_counted, front_stays}
 use Rattle.line_reader.proofs.reading.keep_piece.Goals as goal

@@ -1,6 +1,6 @@
 use Rattle.std.proofs.Common.{length, ap, ◌∙◌, arith, length-append}
 use Rattle.line_reader.specs.Keeping.{clipped_from}
-use Rattle.line_reader.proofs.KeepLaws.{open-clipped}
+use Rattle.line_reader.proofs.KeepLaws.{open-clipped, clipped-most}
 use Rattle.line_reader.proofs.HoldLaws.{fed_open, fed_held}
 use Rattle.line_reader.proofs.reading.LineReader.feed.Goals as goal
 
@@ -19,4 +19,10 @@ invariant_of-self c =
 pub returns-in-Ok-clause-ok : goal.returns-in-Ok-clause-ok
 returns-in-Ok-clause-ok c bytes h =
     let held = c.drop_given.new.self in
-    record { kept = fed_held held.held.items _ c.args.piece.now bytes held.at held.last (omega (arith, held.placed, held.held.ok)) held.counted c.in-Ok.ensures.kept (c.drop_given.ensures ∙ h.kept) }
+    record { kept = fed_held held.held.items _ c.args.piece.now bytes held.at held.last (omega (arith, held.placed, held.held.ok)) held.counted c.in-Ok.ensures.kept (c.drop_given.ensures.kept ∙ h.kept) }
+
+pub returns-in-Ok-clause-room : goal.returns-in-Ok-clause-room
+returns-in-Ok-clause-room c =
+    let held = c.drop_given.new.self in
+    let long = ap length c.in-Ok.ensures.kept ∙ length-append held.held.items (clipped_from held.last c.args.piece.now) in
+    omega (arith, long, c.drop_given.ensures.room, clipped-most held.last c.args.piece.now)

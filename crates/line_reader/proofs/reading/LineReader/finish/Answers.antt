@@ -1,4 +1,4 @@
-use Rattle.std.proofs.Common.{rules, ◌≡◌, ◌≢◌, List, [], length, drop, refl, sym, ap, subst, ◌∙◌, arith, drop_of_length-le}
+use Rattle.std.proofs.Common.{rules, ◌≡◌, ◌≢◌, [], drop, refl, sym, subst, ◌∙◌, drop_of_length-le}
 use Rattle.line_reader.specs.Cutting.{IsLine}
 use Rattle.line_reader.proofs.HoldLaws.{slice_behind, none_left, some_left, last_told, no_length, some_length}
 use Rattle.line_reader.proofs.reading.LineReader.finish.Goals as goal

@@ -1,5 +1,6 @@
-use Rattle.std.proofs.Common.{rules, refl, sym, ap, subst, ◌∙◌, arith, length-drop}
+use Rattle.std.proofs.Common.{drop, refl, sym, subst, ◌∙◌, arith, length-drop, true≢false}
 use Rattle.line_reader.specs.Cutting.{NoFeed, IsLine}
+use Rattle.line_reader.proofs.KeepLaws.{open-plain}
 use Rattle.line_reader.proofs.HoldLaws.{no_line, never_both, never_open, has_line, behind_line, still_open, slice_first}
 use Rattle.line_reader.proofs.reading.LineReader.next_line.Goals as goal
 
@@ -9,7 +10,12 @@ returns-in_err-length c =
       (
         refl,
         λ _. tt,
-        λ bytes h. (λ plain. h, λ raw more is plain. absurd (never_both raw more plain (subst NoFeed is (no_line _ bytes kept h.kept)))),
+        record {
+          same = λ bytes h plain. h;
+          behind = λ bytes raw more h is plain. absurd (never_both raw more plain (subst NoFeed is (no_line _ bytes kept h.kept)));
+          fewer = λ some. let none = rw c.from_residual.ensures at some in absurd (true≢false (sym none));
+          few = λ none. omega (arith, open-plain 0 (drop c.args.self.now.at c.args.self.now.held.items) kept, c.args.self.now.counted, c.args.self.now.few, length-drop c.args.self.now.at c.args.self.now.held.items);
+        },
       ),
       record { line = λ bytes h. rw c.from_residual.ensures (no_line _ bytes kept h.kept); after_borrow = tt },
     )
@@ -34,10 +40,12 @@ returns c =
       (
         refl,
         λ _. tt,
-        λ bytes h. (
-          λ plain. absurd (never_open _ bytes n first h.kept plain),
-          λ raw more is plain. record { kept = behind_line items bytes raw more at n first h.kept is plain },
-        ),
+        record {
+          same = λ bytes h plain. absurd (never_open _ bytes n first h.kept plain);
+          behind = λ bytes raw more h is plain. record { kept = behind_line items bytes raw more at n first h.kept is plain };
+          fewer = λ some. omega (arith, first.within, length-drop at items);
+          few = λ none. absurd (true≢false none);
+        },
       ),
       record { line = λ bytes h. has_line _ bytes n c.told.result first h.kept told; after_borrow = tt },
     )
