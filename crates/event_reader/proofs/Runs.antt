@@ -120,9 +120,9 @@ final_over w n s t (b ∷ end) e h =
     let p = and_parts (is_blank b) (all_blank end) h in
     let i : Input = of_event w n (atom_value t) in
     ap (option_and_then (final end)) (
-      ap (λ p. go (InAtom w n s) p (sign_of b)) (part_blank b p.0)
-      ∙ ap (atom_on w n Blank (atom.said s)) (said_dark s t e (sign_of b) (blank_sign b p.0))
-      ∙ ap (over w n Blank) e
+    ap (λ p. go (InAtom w n s) p (sign_of b)) (part_blank b p.0)
+    ∙ ap (atom_on w n Blank (atom.said s)) (said_dark s t e (sign_of b) (blank_sign b p.0))
+    ∙ ap (over w n Blank) e
     )
     ∙ ap (λ y. final y (End i)) (sym (append-nil end)) ∙ final_blanks (End i) (λ x. refl) end [] p.1
 

@@ -92,9 +92,9 @@ goes_atom w n s r =
     let walks : walk true (signs more) s ≡ Some (behind_tree t AnAtom) =
     sym (l.walks true more) ∙ ap (λ y. walk true y Begin) (l.reads more ∙ text) ∙ tree_walks true AnAtom t [] fine in
     goes_by (InAtom w n s) more (of_event w n (atom_value t)) (
-      ap (λ y. final y (InAtom w n s)) (sym (append-nil more))
-      ∙ final_on w n s (behind_tree t AnAtom) more [] walks
-      ∙ ap (option_map (λ t. of_event w n (atom_value t))) (said_tree t AnAtom)
+    ap (λ y. final y (InAtom w n s)) (sym (append-nil more))
+    ∙ final_on w n s (behind_tree t AnAtom) more [] walks
+    ∙ ap (option_map (λ t. of_event w n (atom_value t))) (said_tree t AnAtom)
     )
 
 goes : (s : State) → Ready s → Goes [] s
