@@ -1,7 +1,5 @@
 -- What the machine makes of the pieces of a line.
-use Rattle.std.proofs.Common.{◌≡◌, ℕ, ◌+◌, ◌*◌, ◌-◌, ◌/◌, ◌^◌, ◌<◌, ◌≤◌, ◌⊎◌, inl, inr, Bool, true, false, cond, List, [], ◌∷◌, length, drop, Option, Some, None, option_map, Result, Ok, Err, refl, sym, ap, ◌∙◌, arith, subst, length-drop, zero, suc}
-use Rattle.std.specs.Prelude.{nat_lt}
-use Rattle.std.proofs.lemmas.Bool.{lt-ltb, le-ltb}
+use Rattle.std.proofs.Common.{◌≡◌, ℕ, ◌+◌, ◌<◌, ◌≤◌, ◌⊎◌, inl, inr, true, false, List, [], ◌∷◌, length, drop, Option, Some, None, option_map, Result, Ok, Err, refl, sym, ap, ◌∙◌, arith, subst, length-drop}
 use Rattle.ev_term.specs.Presence.{Said, Says, Fails}
 use Rattle.ev_term.specs.declared.atoms.Atom.{Atom}
 use Rattle.ev_term.specs.declared.inputs.Input.{Input}
@@ -11,23 +9,21 @@ use Rattle.term_reader.specs.declared.faults.TermFault.TheVariants as of_term
 use Rattle.term_reader.specs.declared.signs.Sign.{Sign}
 use Rattle.term_reader.specs.declared.signs.Sign.TheVariants.{Space, Tab}
 use Rattle.term_reader.specs.Signs.{sign_of}
-use Rattle.term_reader.specs.Grammar.{Tree, Wanted.AnAtom, atom_value}
+use Rattle.term_reader.specs.Grammar.{Tree, atom_value}
 use Rattle.term_reader.specs.Machine as atom
 use Rattle.term_reader.specs.Machine.{State.Begin}
 use Rattle.term_reader.specs.Steps as run
 use Rattle.term_reader.specs.Steps.{Outcome, Outcome.Reads, Outcome.Stops, limit_at}
-use Rattle.term_reader.specs.Readings as given
 use Rattle.term_reader.specs.Readings.{AtomGiven}
 use Rattle.term_reader.proofs.Loose.{step_loosens, PassesLimit}
 use Rattle.term_reader.proofs.Places.{passes}
 use Rattle.event_reader.specs.declared.parts.Part.{Part}
-use Rattle.event_reader.specs.declared.parts.Part.TheVariants.{Blank, Digit, Plus, Minus, Bang, Hash, Other}
+use Rattle.event_reader.specs.declared.parts.Part.TheVariants.{Blank, Digit, Hash}
 use Rattle.event_reader.specs.declared.faults.LineFault.{LineFault}
-use Rattle.event_reader.specs.declared.faults.LineFault.TheVariants as fault
 use Rattle.event_reader.specs.Faults.{line_fault}
 use Rattle.event_reader.specs.Machine as way
 use Rattle.event_reader.specs.Machine.{part_of, DigitFits, Way, Way.Adds, Way.Takes, Kind, State, State.Front, State.Note, State.Mark, State.Gap, State.Digits, State.Wait, State.InAtom, State.End, of_event, in_atom, over, atom_on, go, step, accepted, ended, onward, hear}
-use Rattle.event_reader.specs.Reads.{is_blank, is_digit, begins, PartAt, MaybePart, StopsBy, BlanksRead, GapRead, DigitsRead, DigitsAt, TimeRead, TimeAt, AtomRead, AtomAt}
+use Rattle.event_reader.specs.Reads.{is_blank, is_digit, begins, PartAt, StopsBy, BlanksRead, GapRead, DigitsRead, DigitsAt, TimeRead, TimeAt, AtomRead}
 use Rattle.event_reader.proofs.Tells.{Tells, part_tells, blank_sign}
 
 -- ---- one step, over the byte at a place
@@ -214,4 +210,3 @@ noted (b ∷ xs) at = noted xs (at + 1)
 
 pub comment_read : (line : List ℕ) (start : ℕ) (p : Part) → BlanksRead line 0 start → PartAt line start p → p ≡ Hash → hear line Front 0 ≡ Says Nothing
 comment_read line start p b a e = to_part line start b ∙ hear_step line start Hash Front Note (subst (PartAt line start) e a) (λ x. refl) ∙ noted (drop (start + 1) line) (start + 1)
-
