@@ -1,5 +1,5 @@
 -- Each line is heard exactly, and says one thing.
-use Rattle.std.proofs.Common.{◌≡◌, ℕ, ◌+◌, ◌<◌, ◌≤◌, ◌⊎◌, inl, inr, Bool, true, false, cond, List, length, take, Some, None, Result, Ok, Err, refl, sym, ap, ◌∙◌, arith, subst}
+use Rattle.std.proofs.Common.{◌≡◌, ℕ, ◌<◌, ◌≤◌, inl, inr, Bool, true, false, cond, List, length, take, Some, None, Result, Ok, Err, refl, sym, ap, ◌∙◌, arith, subst}
 use Rattle.std.specs.Prelude.{nat_le}
 use Rattle.std.proofs.lemmas.Bool.{leb-true, leb-false, le-leb, lt-leb, cond-true, cond-false}
 use Rattle.ev_term.specs.Presence.{Said, Says, Fails}
@@ -9,7 +9,7 @@ use Rattle.event_reader.specs.declared.faults.LineFault.TheVariants as fault
 use Rattle.event_reader.specs.Reads.{Heard, LineRead}
 use Rattle.event_reader.specs.EventLines.{HasForm, Begins, IsPlace, Hears}
 use Rattle.event_reader.specs.Machine.{State.Front, hear, heard}
-use Rattle.event_reader.proofs.Rests.{final, sound}
+use Rattle.event_reader.proofs.Rests.{sound}
 use Rattle.event_reader.proofs.Runs.{complete}
 use Rattle.event_reader.proofs.Stops.{Goes, Stops, Means, means}
 

@@ -1,7 +1,5 @@
 -- What the machine makes of the pieces of a line.
-use Rattle.std.proofs.Common.{◌≡◌, ℕ, ◌+◌, ◌*◌, ◌-◌, ◌/◌, ◌^◌, ◌<◌, ◌≤◌, ◌⊎◌, inl, inr, Bool, true, false, cond, List, [], ◌∷◌, length, drop, Option, Some, None, option_map, Result, Ok, Err, refl, sym, ap, ◌∙◌, arith, subst, length-drop, zero, suc}
-use Rattle.std.specs.Prelude.{nat_lt}
-use Rattle.std.proofs.lemmas.Bool.{lt-ltb, le-ltb}
+use Rattle.std.proofs.Common.{◌≡◌, ℕ, ◌+◌, ◌<◌, ◌≤◌, ◌⊎◌, inl, inr, true, false, List, [], ◌∷◌, length, drop, Option, Some, None, option_map, Result, Ok, Err, refl, sym, ap, ◌∙◌, arith, subst, length-drop}
 use Rattle.ev_term.specs.Presence.{Said, Says, Fails}
 use Rattle.ev_term.specs.declared.atoms.Atom.{Atom}
 use Rattle.ev_term.specs.declared.inputs.Input.{Input}
@@ -11,22 +9,21 @@ use Rattle.term_reader.specs.declared.faults.TermFault.TheVariants as of_term
 use Rattle.term_reader.specs.declared.signs.Sign.{Sign}
 use Rattle.term_reader.specs.declared.signs.Sign.TheVariants.{Space, Tab}
 use Rattle.term_reader.specs.Signs.{sign_of}
-use Rattle.term_reader.specs.Grammar.{Tree, Wanted.AnAtom, atom_value}
+use Rattle.term_reader.specs.Grammar.{Tree, atom_value}
 use Rattle.term_reader.specs.Machine as atom
 use Rattle.term_reader.specs.Machine.{State.Begin}
 use Rattle.term_reader.specs.Steps as run
 use Rattle.term_reader.specs.Steps.{Outcome, Outcome.Reads, Outcome.Stops, limit_at}
-use Rattle.term_reader.specs.Readings as given
 use Rattle.term_reader.specs.Readings.{AtomGiven}
-use Rattle.term_reader.proofs.Loose.{Loosens, step_loosens, PassesLimit}
+use Rattle.term_reader.proofs.Loose.{step_loosens, PassesLimit}
+use Rattle.term_reader.proofs.Places.{passes}
 use Rattle.event_reader.specs.declared.parts.Part.{Part}
-use Rattle.event_reader.specs.declared.parts.Part.TheVariants.{Blank, Digit, Plus, Minus, Bang, Hash, Other}
+use Rattle.event_reader.specs.declared.parts.Part.TheVariants.{Blank, Digit, Hash}
 use Rattle.event_reader.specs.declared.faults.LineFault.{LineFault}
-use Rattle.event_reader.specs.declared.faults.LineFault.TheVariants as fault
 use Rattle.event_reader.specs.Faults.{line_fault}
 use Rattle.event_reader.specs.Machine as way
 use Rattle.event_reader.specs.Machine.{part_of, DigitFits, Way, Way.Adds, Way.Takes, Kind, State, State.Front, State.Note, State.Mark, State.Gap, State.Digits, State.Wait, State.InAtom, State.End, of_event, in_atom, over, atom_on, go, step, accepted, ended, onward, hear}
-use Rattle.event_reader.specs.Reads.{is_blank, is_digit, begins, PartAt, MaybePart, StopsBy, BlanksRead, GapRead, DigitsRead, DigitsAt, TimeRead, TimeAt, AtomRead, AtomAt}
+use Rattle.event_reader.specs.Reads.{is_blank, is_digit, begins, PartAt, StopsBy, BlanksRead, GapRead, DigitsRead, DigitsAt, TimeRead, TimeAt, AtomRead}
 use Rattle.event_reader.proofs.Tells.{Tells, part_tells, blank_sign}
 
 -- ---- one step, over the byte at a place
@@ -34,77 +31,17 @@ use Rattle.event_reader.proofs.Tells.{Tells, part_tells, blank_sign}
 pub hear_step : (line : List ℕ) (at : ℕ) (p : Part) (s u : State) → PartAt line at p → ((x : Sign) → go s p x ≡ Some u) → hear (drop at line) s at ≡ hear (drop (at + 1) line) u (at + 1)
 hear_step line at p s u h e = ap (λ y. hear y s at) h.next ∙ ap (onward (hear (drop (at + 1) line)) at) (ap (λ p. go s p (sign_of h.byte)) h.is ∙ e (sign_of h.byte))
 
-pub hear_stuck : (line : List ℕ) (at : ℕ) (p : Part) (s : State) → PartAt line at p → ((x : Sign) → go s p x ≡ None) → hear (drop at line) s at ≡ Fails at
-hear_stuck line at p s h e = ap (λ y. hear y s at) h.next ∙ ap (onward (hear (drop (at + 1) line)) at) (ap (λ p. go s p (sign_of h.byte)) h.is ∙ e (sign_of h.byte))
-
-pub hear_end : (line : List ℕ) (at : ℕ) (s : State) → drop at line ≡ [] → hear (drop at line) s at ≡ ended at (accepted s)
-hear_end line at s h = ap (λ y. hear y s at) h
-
 -- where the first byte passes neither of two tests
 lacks : (s : State) (at : ℕ) → accepted s ≡ None → ((p : Part) (x : Sign) → is_blank p ≡ false → is_digit p ≡ false → go s p x ≡ None) → (xs : List ℕ) → begins is_blank xs ≡ false → begins is_digit xs ≡ false → hear xs s at ≡ Fails at
 lacks s at e h [] f g = ap (ended at) e
 lacks s at e h (b ∷ xs) f g = ap (onward (hear xs) at) (h (part_of b) (sign_of b) f g)
 
--- where no blank begins the bytes
-lacks_blank : (s : State) (at : ℕ) → accepted s ≡ None → ((p : Part) (x : Sign) → is_blank p ≡ false → go s p x ≡ None) → (xs : List ℕ) → begins is_blank xs ≡ false → hear xs s at ≡ Fails at
-lacks_blank s at e h [] f = ap (ended at) e
-lacks_blank s at e h (b ∷ xs) f = ap (onward (hear xs) at) (h (part_of b) (sign_of b) f)
-
--- ---- blanks
-
-pub blanks_start : (line : List ℕ) (at : ℕ) → at ≤ length line → BlanksRead line at at
-blanks_start line at h = record { ordered = omega arith; inside = h; reads = λ s e. refl }
-
-pub blanks_more : (line : List ℕ) (at end : ℕ) (p : Part) → BlanksRead line at end → PartAt line end p → p ≡ Blank → BlanksRead line at (end + 1)
-blanks_more line at end p h a q =
-    let b : PartAt line end Blank = subst (PartAt line end) q a in
-    record { ordered = omega (arith, h.ordered); inside = omega (arith, a.inside); reads = λ s e. h.reads s e ∙ hear_step line end Blank s s b e }
-
-pub gap_read : (line : List ℕ) (at end : ℕ) (p : Part) → PartAt line at p → p ≡ Blank → BlanksRead line (at + 1) end → begins is_blank (drop end line) ≡ false → GapRead line at end
-gap_read line at end p a q h o =
-    let b : PartAt line at Blank = subst (PartAt line at) q a in
-    record { inside = h.inside; reads = λ s u e f. hear_step line at Blank s u b e ∙ h.reads u f; over = o }
-
 -- ---- times
-
-pub digits_start : (line : List ℕ) (n at : ℕ) → at ≤ length line → n < 2 ^ 62 → DigitsRead line n at n at
-digits_start line n at h s = record { inside = h; small = s; reads = λ k. refl }
-
-pub digits_more : (line : List ℕ) (n at time end d : ℕ) → DigitsRead line n at time end → PartAt line end (Digit d) → time * 10 + d < 2 ^ 62 → DigitsRead line n at (time * 10 + d) (end + 1)
-digits_more line n at time end d h a small = record {
-  inside = omega (arith, a.inside);
-  small = small;
-  reads = λ k. h.reads k ∙ hear_step line end (Digit d) (Digits k time) (Digits k (time * 10 + d)) a (λ x. ap (λ c. cond c (Some (Digits k (time * 10 + d))) None) (lt-ltb (time * 10 + d) (2 ^ 62) small));
-}
-
-pub digits_stop : (line : List ℕ) (n at time end d : ℕ) → DigitsRead line n at time end → PartAt line end (Digit d) → 2 ^ 62 ≤ time * 10 + d → (k : Kind) → hear (drop at line) (Digits k n) at ≡ Fails end
-digits_stop line n at time end d h a great k =
-    h.reads k ∙ hear_stuck line end (Digit d) (Digits k time) a (λ x. ap (λ c. cond c (Some (Digits k (time * 10 + d))) None) (le-ltb (time * 10 + d) (2 ^ 62) great))
-
--- the test of the reader, on whole numbers
-pub time_stop : (time d : ℕ) → ((2 ^ 62 - 1) - d) / 10 < time → 2 ^ 62 ≤ time * 10 + d
-time_stop time d h = omega arith
-
-pub time_more : (time d : ℕ) → d < 10 → time ≤ ((2 ^ 62 - 1) - d) / 10 → time * 10 + d < 2 ^ 62
-time_more time d b h = omega arith
-
-mark_dark : (k : Kind) (p : Part) (x : Sign) → is_blank p ≡ false → go (Mark k) p x ≡ None
-mark_dark k Blank x e = cc
-mark_dark k p x e = refl
 
 gap_dark : (k : Kind) (p : Part) (x : Sign) → is_blank p ≡ false → is_digit p ≡ false → go (Gap k) p x ≡ None
 gap_dark k Blank x e f = cc
 gap_dark k (Digit d) x e f = cc
 gap_dark k p x e f = refl
-
-digits_dark : (k : Kind) (n : ℕ) (p : Part) (x : Sign) → is_blank p ≡ false → is_digit p ≡ false → go (Digits k n) p x ≡ None
-digits_dark k n Blank x e f = cc
-digits_dark k n (Digit d) x e f = cc
-digits_dark k n p x e f = refl
-
--- no gap behind a mark
-pub no_gap : (line : List ℕ) (at : ℕ) → begins is_blank (drop at line) ≡ false → (k : Kind) → hear (drop at line) (Mark k) at ≡ Fails at
-no_gap line at e k = lacks_blank (Mark k) at refl (mark_dark k) (drop at line) e
 
 to_gap : (line : List ℕ) (at end : ℕ) → GapRead line at end → (k : Kind) → hear (drop at line) (Mark k) at ≡ hear (drop end line) (Gap k) end
 to_gap line at end g k = g.reads (Mark k) (Gap k) (λ x. refl) (λ x. refl)
@@ -131,9 +68,6 @@ time_given line at start d (Err why) g a h = time_stops line at start d why g a 
 end_dark : (i : Input) (p : Part) (x : Sign) → is_blank p ≡ false → go (End i) p x ≡ None
 end_dark i Blank x e = cc
 end_dark i p x e = refl
-
-pub all_read : (line : List ℕ) (at end : ℕ) → BlanksRead line at end → drop end line ≡ [] → (i : Input) → hear (drop at line) (End i) at ≡ Says i
-all_read line at end h e i = h.reads (End i) (λ x. refl) ∙ hear_end line end (End i) e
 
 pub more_left : (line : List ℕ) (at end : ℕ) → BlanksRead line at end → end < length line → begins is_blank (drop end line) ≡ false → (i : Input) → hear (drop at line) (End i) at ≡ Fails end
 more_left line at end h l o i = h.reads (End i) (λ x. refl) ∙ some (drop end line) (omega (arith, length-drop end line)) o
@@ -196,11 +130,6 @@ limit_dark w n Blank b o h q = absurd (at (blank_sign b h))
     at (inr e) = subst PassesLimit e q
 limit_dark w n p b o h q = refl
 
-passes : (x : Sign) (o u : Option atom.State) (to : atom.State) → o ≡ None → u ≡ Some to → Loosens x o u → PassesLimit x
-passes x None (Some t) to e f h = h
-passes x None None to e f h = absurd (let g = f in cc)
-passes x (Some t) u to e f h = absurd (let g = e in cc)
-
 joins_halted : (w : Way) (n at b : ℕ) (xs : List ℕ) (s : atom.State) (o : Option atom.State) → atom.step true s (sign_of b) ≡ None → atom.step false s (sign_of b) ≡ o → Joins w n at (b ∷ xs) (run.halted o s b xs) (onward (hear xs) at (over w n (part_of b) (atom.said s)))
 joins_halted w n at b xs s None e f = joins_over w n at b xs (atom.said s)
 joins_halted w n at b xs s (Some to) e f = λ place g.
@@ -255,10 +184,6 @@ atom_stops line at of_term.Memory h e g w n = tt
 
 -- ---- events
 
--- no gap behind the time of an event
-pub no_atom : (line : List ℕ) (at time end : ℕ) → TimeRead line at time end → begins is_blank (drop end line) ≡ false → (w : Way) → hear (drop at line) (Mark (way.Kind.OfEvent w)) at ≡ Fails end
-no_atom line at time end t e w = t.reads (way.Kind.OfEvent w) ∙ lacks (Digits (way.Kind.OfEvent w) time) end refl (digits_dark (way.Kind.OfEvent w) time) (drop end line) e t.over
-
 to_atom : (line : List ℕ) (at time end start : ℕ) → TimeRead line at time end → GapRead line end start → (w : Way) → hear (drop at line) (Mark (way.Kind.OfEvent w)) at ≡ hear (drop start line) (Wait w time) start
 to_atom line at time end start t g w = t.reads (way.Kind.OfEvent w) ∙ g.reads (Digits (way.Kind.OfEvent w) time) (Wait w time) (λ x. refl) (λ x. refl)
 
@@ -276,21 +201,8 @@ event_read line at time end start a last t g h k w = to_end line at time end sta
 
 -- ---- lines
 
-front_dark : (p : Part) (x : Sign) → is_blank p ≡ false → (p ≡ Hash → ⊥) → (p ≡ Plus → ⊥) → (p ≡ Minus → ⊥) → (p ≡ Bang → ⊥) → go Front p x ≡ None
-front_dark Blank x e h i j k = cc
-front_dark Hash x e h i j k = absurd (h refl)
-front_dark Plus x e h i j k = absurd (i refl)
-front_dark Minus x e h i j k = absurd (j refl)
-front_dark Bang x e h i j k = absurd (k refl)
-front_dark p x e h i j k = refl
-
 pub to_part : (line : List ℕ) (start : ℕ) → BlanksRead line 0 start → hear line Front 0 ≡ hear (drop start line) Front start
 to_part line start h = h.reads Front (λ x. refl)
-
-pub no_mark : (line : List ℕ) (start : ℕ) (p : Part) → BlanksRead line 0 start → begins is_blank (drop start line) ≡ false → PartAt line start p → (p ≡ Hash → ⊥) → (p ≡ Plus → ⊥) → (p ≡ Minus → ⊥) → (p ≡ Bang → ⊥) → hear line Front 0 ≡ Fails start
-no_mark line start p b o a h i j k =
-    let dark : is_blank p ≡ false = ap is_blank (sym a.is) ∙ sym (ap (begins is_blank) a.next) ∙ o in
-    to_part line start b ∙ hear_stuck line start p Front a (λ x. front_dark p x dark h i j k)
 
 noted : (xs : List ℕ) (at : ℕ) → hear xs Note at ≡ Says Nothing
 noted [] at = refl
@@ -298,9 +210,3 @@ noted (b ∷ xs) at = noted xs (at + 1)
 
 pub comment_read : (line : List ℕ) (start : ℕ) (p : Part) → BlanksRead line 0 start → PartAt line start p → p ≡ Hash → hear line Front 0 ≡ Says Nothing
 comment_read line start p b a e = to_part line start b ∙ hear_step line start Hash Front Note (subst (PartAt line start) e a) (λ x. refl) ∙ noted (drop (start + 1) line) (start + 1)
-
-pub nothing_read : (line : List ℕ) (start : ℕ) → BlanksRead line 0 start → drop start line ≡ [] → hear line Front 0 ≡ Says Nothing
-nothing_read line start b e = to_part line start b ∙ hear_end line start Front e
-
-pub to_mark : (line : List ℕ) (start : ℕ) (p q : Part) (k : Kind) → BlanksRead line 0 start → PartAt line start p → p ≡ q → ((x : Sign) → go Front q x ≡ Some (Mark k)) → hear line Front 0 ≡ hear (drop (start + 1) line) (Mark k) (start + 1)
-to_mark line start p q k b a e h = to_part line start b ∙ hear_step line start q Front (Mark k) (subst (PartAt line start) e a) h

@@ -1,17 +1,15 @@
 -- What is left of a line behind a state of the machine, in the grammar's words.
-use Rattle.std.proofs.Common.{◌≡◌, ◌≢◌, ℕ, ◌+◌, ◌*◌, ◌^◌, ◌<◌, ◌⊎◌, inl, inr, Bool, true, false, ◌&&◌, cond, List, [], ◌∷◌, ◌++◌, Option, Some, None, MatchOption, option_and_then, option_map, refl, sym, ap, ◌∙◌, arith, subst, append_assoc, append-nil}
+use Rattle.std.proofs.Common.{◌≡◌, ℕ, ◌+◌, ◌*◌, ◌^◌, ◌<◌, inl, inr, Bool, true, false, cond, List, [], ◌∷◌, ◌++◌, Option, Some, None, MatchOption, option_and_then, option_map, refl, sym, ap, ◌∙◌, arith, subst, append_assoc, append-nil}
 use Rattle.std.specs.Prelude.{nat_lt}
 use Rattle.std.specs.List.{list_all}
 use Rattle.std.specs.Char.{digit_value}
-use Rattle.std.specs.Str.Parse.{digits_value, digits_value_after}
+use Rattle.std.specs.Str.Parse.{digits_value_after}
 use Rattle.std.proofs.lemmas.Bool.{and_from, ltb-true}
 use Rattle.ev_term.specs.Happenings.{PlainEvent}
 use Rattle.ev_term.specs.declared.atoms.Atom.{Atom}
 use Rattle.ev_term.specs.declared.inputs.Input.{Input}
 use Rattle.ev_term.specs.declared.inputs.Input.TheVariants.{Add, Take, Advance, Nothing}
-use Rattle.term_reader.specs.declared.signs.Sign.{Sign}
 use Rattle.term_reader.specs.Signs.{sign_of, signs}
-use Rattle.term_reader.specs.Grammar as grammar
 use Rattle.term_reader.specs.Grammar.{Tree, Wanted.AnAtom, atom_value}
 use Rattle.term_reader.specs.Machine as atom
 use Rattle.term_reader.specs.Machine.{State.Begin}
@@ -19,8 +17,8 @@ use Rattle.term_reader.proofs.Walks.{walk}
 use Rattle.term_reader.proofs.Places.{said_reads, start_fine}
 use Rattle.term_reader.proofs.Found.{leads_walk}
 use Rattle.event_reader.specs.declared.parts.Part.{Part}
-use Rattle.event_reader.specs.declared.parts.Part.TheVariants.{Blank, Digit, Plus, Minus, Bang, Hash, Other}
-use Rattle.event_reader.specs.EventLines.{is_blank, is_digit, all_blank, IsGap, IsTime, IsAtom, Marked, OfEvent, OfTime, IsComment, HasForm}
+use Rattle.event_reader.specs.declared.parts.Part.TheVariants.{Blank, Digit, Plus, Minus, Bang, Hash}
+use Rattle.event_reader.specs.EventLines.{is_blank, is_digit, all_blank, IsGap, IsTime, IsAtom, Marked, OfEvent, HasForm}
 use Rattle.event_reader.specs.Machine as way
 use Rattle.event_reader.specs.Machine.{part_of, Way, Way.Adds, Way.Takes, Kind, State, State.Front, State.Note, State.Mark, State.Gap, State.Digits, State.Wait, State.InAtom, State.End, of_event, behind_time, in_atom, over, atom_on, go, step, accepted}
 use Rattle.event_reader.proofs.Tells.{Tells, part_tells}

@@ -1,9 +1,8 @@
 -- The machine takes each line that has a form, with the input that it says.
-use Rattle.std.proofs.Common.{◌≡◌, ℕ, ◌+◌, ◌*◌, ◌^◌, ◌<◌, ◌≤◌, ◌⊎◌, inl, inr, Bool, true, false, ◌&&◌, cond, List, [], ◌∷◌, ◌++◌, Option, Some, None, option_and_then, option_map, refl, sym, ap, ◌∙◌, arith, subst, append-nil}
-use Rattle.std.specs.Prelude.{nat_lt}
+use Rattle.std.proofs.Common.{◌≡◌, ℕ, ◌+◌, ◌*◌, ◌^◌, ◌<◌, ◌≤◌, ◌⊎◌, inl, inr, true, cond, List, [], ◌∷◌, ◌++◌, Option, Some, None, option_and_then, option_map, refl, sym, ap, ◌∙◌, arith, append-nil}
 use Rattle.std.specs.List.{list_all}
 use Rattle.std.specs.Char.{digit_value}
-use Rattle.std.specs.Str.Parse.{digits_value, digits_value_after}
+use Rattle.std.specs.Str.Parse.{digits_value_after}
 use Rattle.std.proofs.lemmas.Bool.{and_parts, lt-ltb}
 use Rattle.ev_term.specs.declared.atoms.Atom.{Atom}
 use Rattle.ev_term.specs.declared.inputs.Input.{Input}
@@ -11,13 +10,13 @@ use Rattle.ev_term.specs.declared.inputs.Input.TheVariants.{Add, Take, Advance, 
 use Rattle.term_reader.specs.declared.signs.Sign.{Sign}
 use Rattle.term_reader.specs.declared.signs.Sign.TheVariants.{Space, Tab}
 use Rattle.term_reader.specs.Signs.{sign_of, signs}
-use Rattle.term_reader.specs.Grammar.{Tree, Tree.Number, Tree.Name, Tree.Text, Tree.Comp, Wanted.AnAtom, Blanks, atom_value}
+use Rattle.term_reader.specs.Grammar.{Tree, Wanted.AnAtom, atom_value}
 use Rattle.term_reader.specs.Machine as atom
 use Rattle.term_reader.specs.Machine.{State.Begin, Stack.Top}
 use Rattle.term_reader.proofs.Walks.{walk, tree_walks, behind_tree, said_tree}
 use Rattle.event_reader.specs.declared.parts.Part.{Part}
-use Rattle.event_reader.specs.declared.parts.Part.TheVariants.{Blank, Digit}
-use Rattle.event_reader.specs.EventLines.{is_blank, is_digit, all_blank, IsGap, IsTime, IsAtom, Marked, OfEvent, OfTime, IsComment, HasForm}
+use Rattle.event_reader.specs.declared.parts.Part.TheVariants.{Blank}
+use Rattle.event_reader.specs.EventLines.{is_blank, is_digit, all_blank, IsGap, IsTime, IsAtom, Marked, OfEvent, HasForm}
 use Rattle.event_reader.specs.Machine as way
 use Rattle.event_reader.specs.Machine.{part_of, Way, Way.Adds, Way.Takes, Kind, State, State.Front, State.Note, State.Mark, State.Gap, State.Digits, State.Wait, State.InAtom, State.End, of_event, behind_time, over, atom_on, in_time, go, step, accepted}
 use Rattle.event_reader.proofs.Tells.{Tells, part_tells, part_blank, part_digit, blank_sign}
@@ -120,9 +119,9 @@ final_over w n s t (b ∷ end) e h =
     let p = and_parts (is_blank b) (all_blank end) h in
     let i : Input = of_event w n (atom_value t) in
     ap (option_and_then (final end)) (
-      ap (λ p. go (InAtom w n s) p (sign_of b)) (part_blank b p.0)
-      ∙ ap (atom_on w n Blank (atom.said s)) (said_dark s t e (sign_of b) (blank_sign b p.0))
-      ∙ ap (over w n Blank) e
+    ap (λ p. go (InAtom w n s) p (sign_of b)) (part_blank b p.0)
+    ∙ ap (atom_on w n Blank (atom.said s)) (said_dark s t e (sign_of b) (blank_sign b p.0))
+    ∙ ap (over w n Blank) e
     )
     ∙ ap (λ y. final y (End i)) (sym (append-nil end)) ∙ final_blanks (End i) (λ x. refl) end [] p.1
 

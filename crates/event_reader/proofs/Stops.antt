@@ -1,10 +1,9 @@
 -- Where the machine stops, and that each state that it comes to can be completed.
-use Rattle.std.proofs.Common.{◌≡◌, ℕ, ◌+◌, ◌*◌, ◌^◌, ◌<◌, ◌≤◌, Bool, true, false, cond, List, [], ◌∷◌, ◌++◌, length, take, Option, Some, None, MatchOption, option_and_then, option_map, refl, sym, ap, ◌∙◌, arith, subst, append-nil, zero, suc}
+use Rattle.std.proofs.Common.{◌≡◌, ℕ, ◌+◌, ◌*◌, ◌^◌, ◌≤◌, Bool, true, false, cond, List, [], ◌∷◌, ◌++◌, length, take, Option, Some, None, MatchOption, option_and_then, option_map, refl, sym, ap, ◌∙◌, arith, append-nil, zero, suc}
 use Rattle.std.specs.Prelude.{nat_lt}
 use Rattle.ev_term.specs.Presence.{Said, Says, Fails}
 use Rattle.ev_term.specs.declared.inputs.Input.{Input}
 use Rattle.ev_term.specs.declared.inputs.Input.TheVariants.{Advance, Nothing}
-use Rattle.term_reader.specs.declared.signs.Sign.{Sign}
 use Rattle.term_reader.specs.Signs.{sign_of, signs}
 use Rattle.term_reader.specs.Grammar.{Tree, Wanted.AnAtom, atom_value}
 use Rattle.term_reader.specs.Machine as atom
@@ -13,7 +12,7 @@ use Rattle.term_reader.proofs.Walks.{walk, ends, tree_walks, behind_tree, said_t
 use Rattle.term_reader.proofs.Places.{start_fine}
 use Rattle.term_reader.proofs.Found.{leads_walk}
 use Rattle.event_reader.specs.declared.parts.Part.{Part}
-use Rattle.event_reader.specs.declared.parts.Part.TheVariants.{Blank, Digit, Plus, Minus, Bang, Hash, Other}
+use Rattle.event_reader.specs.declared.parts.Part.TheVariants.{Blank, Digit, Plus, Minus, Bang, Hash}
 use Rattle.event_reader.specs.Machine as way
 use Rattle.event_reader.specs.Machine.{part_of, Way, Kind, State, State.Front, State.Note, State.Mark, State.Gap, State.Digits, State.Wait, State.InAtom, State.End, of_event, behind_time, in_atom, over, atom_on, go, step, accepted, ended, onward, hear}
 use Rattle.event_reader.proofs.Rests.{final, walk_more}
@@ -92,9 +91,9 @@ goes_atom w n s r =
     let walks : walk true (signs more) s ≡ Some (behind_tree t AnAtom) =
     sym (l.walks true more) ∙ ap (λ y. walk true y Begin) (l.reads more ∙ text) ∙ tree_walks true AnAtom t [] fine in
     goes_by (InAtom w n s) more (of_event w n (atom_value t)) (
-      ap (λ y. final y (InAtom w n s)) (sym (append-nil more))
-      ∙ final_on w n s (behind_tree t AnAtom) more [] walks
-      ∙ ap (option_map (λ t. of_event w n (atom_value t))) (said_tree t AnAtom)
+    ap (λ y. final y (InAtom w n s)) (sym (append-nil more))
+    ∙ final_on w n s (behind_tree t AnAtom) more [] walks
+    ∙ ap (option_map (λ t. of_event w n (atom_value t))) (said_tree t AnAtom)
     )
 
 goes : (s : State) → Ready s → Goes [] s

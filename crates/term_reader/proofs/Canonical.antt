@@ -20,7 +20,6 @@ use Rattle.term_reader.specs.Machine.{State, Stack.Top, step, start}
 use Rattle.term_reader.specs.Steps.{Outcome, Outcome.Reads, Outcome.Stops, run, onward}
 use Rattle.term_reader.specs.Readings.{begins, is_word, is_open, is_digit, Fails, TermGiven, AtomGiven}
 use Rattle.term_reader.specs.Limits.{within, within_step, within_at, is_within, is_atom_within, all_within, is_i64, is_name, is_text, goes_on, Free, TermBack, AtomBack}
-use Rattle.term_reader.specs.Said.{IsWritten}
 use Rattle.term_reader.proofs.Bytes.{signs-append}
 use Rattle.term_reader.proofs.Pieces.{both, name_for, signed_for, text_for}
 use Rattle.term_reader.proofs.Walks.{walk, tree_walks, behind_tree}
@@ -308,9 +307,3 @@ atom_back bytes at (Ok x) g = λ a rest w e h.
     (sym g.2 ∙ ap atom_value s.0 ∙ u.1, end_is bytes at x.1 (atom_text a) rest g.1.ordered g.1.inside e (sym s.1))
 atom_back bytes at (Err fault) g = λ a rest w e h.
     let u = atom_runs a bytes at rest w e h in fault_is_memory bytes fault u.0 rest (run (drop at bytes) (start AnAtom)) u.2 g
-
-pub written_within : (a : Atom) → is_atom_within a ≡ true → IsWritten a
-unfolding AtomFor
-written_within a w =
-    let r = atom_for a.name a.args w in
-    record { made = r.0; says = r.1; fine = r.2; written = r.3 }

@@ -11,4 +11,3 @@ pub mod Wholes
 pub mod Pieces
 pub mod Canonical
 pub mod Found
-pub mod SaidLaws

@@ -167,7 +167,7 @@ limit_kind b Comma h p = ap is_comma (sym h)
 limit_kind b (Digit d) h p = h.0
 limit_kind b x h p = absurd p
 
-passes : (x : Sign) (o u : Option State) (s : State) → o ≡ None → u ≡ Some s → Loosens x o u → PassesLimit x
+pub passes : (x : Sign) (o u : Option State) (s : State) → o ≡ None → u ≡ Some s → Loosens x o u → PassesLimit x
 passes x None (Some t) s e f h = h
 passes x None None s e f h = absurd (let g = f in cc)
 passes x (Some t) u s e f h = absurd (let g = e in cc)

@@ -4,4 +4,3 @@ pub mod Machine
 pub mod Steps
 pub mod Readings
 pub mod Limits
-pub mod Said

@@ -6,14 +6,12 @@ mod numbers;
 mod peeking;
 mod reading;
 pub mod signs;
-mod spelling;
 mod texts;
 mod trees;
 mod words;
 
 pub use faults::TermFault;
 pub use reading::{read_atom, read_ground};
-pub use spelling::{canonical_atoms_are_exact, read_canonical_atom};
 
 #[cfg(test)]
 mod tests {

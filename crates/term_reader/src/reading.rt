@@ -43,7 +43,7 @@ pub fn read_atom(alloc: Global, bytes: &[u8], at: usize) -> Result<(Atom, usize)
     atom_at(alloc, bytes, at)
 }
 
-pub(crate) fn atom_at(alloc: Global, bytes: &[u8], at: usize) -> Result<(Atom, usize), TermFault>
+fn atom_at(alloc: Global, bytes: &[u8], at: usize) -> Result<(Atom, usize), TermFault>
     requires { at ≤ length bytes.now }
     ensures { AtomGiven bytes.now at result }
 {
