@@ -160,7 +160,7 @@ impl Engine {
     {
         let (bound, changed) = match self.state {
             State::Working { bound, changed } => (bound, changed),
-            _ => return Err(EngineFault::Spent),
+            State::Resting | State::Spent => return Err(EngineFault::Spent),
         };
         self.state = State::Spent;
         self.table
