@@ -1,5 +1,4 @@
--- Events in order with numbers beside them, after a search for an event: its number, and what the lists say where a copy comes
--- or goes.
+-- The events that are kept, after a search for one: its number, and what the lists say where a copy of it comes or goes.
 use Rattle.std.proofs.Common.{◌≡◌, ℕ, ◌+◌, ◌-◌, ◌≤◌, ◌<◌, zero, suc, true, false, List, [], ◌∷◌, length, get_or, set, Result, Ok, Err, refl, sym, ap, ◌∙◌, subst, arith}
 use Rattle.std.specs.Prelude.{nat_lt, ◌==◌, if◌then◌else◌, OnOk}
 use Rattle.std.specs.List.{insert, remove, HoldsAt}
@@ -19,6 +18,7 @@ use Rattle.ev_term.specs.EventOrder.{event_cmp, exact_events}
 use Rattle.ev_term.specs.Presence.{added, taken, occurrences}
 use Rattle.ev_term.specs.declared.inputs.Input.{Input}
 use Rattle.ev_term.specs.declared.inputs.Input.TheVariants.{Add}
+use Rattle.etalis_core.specs.declared.present.Present.{Present}
 use Rattle.etalis_core.specs.Rises.{rises, rising_of, of_rising}
 use Rattle.etalis_core.specs.Numbers.{number_in, positive}
 use Rattle.etalis_core.proofs.NumberLaws.{number_none, number_at, number_set, number_insert, number_remove, Rising-remove, has_number, positive_insert, positive_remove}
@@ -55,119 +55,134 @@ on_ok : {A E : Type 0} {P Q : Type 0} (r : Result A E) → (P → Q) → OnOk r 
 on_ok (Ok a) f h = f h
 on_ok (Err e) f h = tt
 
-module _ (events : List PlainEvent) (numbers : List ℕ) (in_order : rises event_cmp events ≡ true) (one_each : length numbers ≡ length events) (some : positive numbers ≡ true) where
+-- a search found an event at a place
+pub record FoundAt (p : Present) (q : PlainEvent) (k : ℕ) : Type 0 where
+  pub in_events : k < length p.events.items
+  pub in_numbers : k < length p.numbers.items
+  pub here : get_or p.events.items k q ≡ q
+  pub there : has event_cmp q p.events.items ≡ true
+
+pub found_at : (p : Present) (s : List PlainEvent) → s ≡ p.events.items → (q : PlainEvent) (k : ℕ) → k < length s → HoldsAt (λ y. event_cmp y q ≡ Equal) s k → FoundAt p q k
+found_at p s same q k bound holds =
+    let within : k < length p.events.items = subst (λ l. k < length l) same bound in
+    record {
+      in_events = within;
+      in_numbers = omega (arith, within, p.one_each);
+      here = exact_events.same (get_or p.events.items k q) q (ap (λ l. event_cmp (get_or l k q) q) (sym same) ∙ holds q);
+      there = ap (has event_cmp q) (sym same) ∙ found exact_events q s k bound holds;
+    }
+
+-- a search didn't find an event, and ended at a place
+pub record MissingAt (p : Present) (q : PlainEvent) (i : ℕ) : Type 0 where
+  pub in_events : i ≤ length p.events.items
+  pub none : has event_cmp q p.events.items ≡ false
+  pub placed : insert p.events.items i q ≡ place event_cmp q p.events.items
+
+pub missing_at : (p : Present) (s : List PlainEvent) → s ≡ p.events.items → (q : PlainEvent) (i : ℕ) → i ≤ length s
+    → (IsNonDecreasingBy (λ y. ordering_index (event_cmp y q)) s → IsPartitionPoint (λ y. event_cmp y q ≡ Less) (λ y. event_cmp y q ≡ Greater) s i) → MissingAt p q i
+missing_at p s same q i bound parts =
+    let rising : Rising event_cmp s = subst (λ l. Rising event_cmp l) (sym same) (rising_of event_cmp p.events.items p.in_order) in
+    let sides = parted exact_events q s rising i bound parts in
+    record {
+      in_events = subst (λ l. i ≤ length l) same bound;
+      none = ap (has event_cmp q) (sym same) ∙ sides.0;
+      placed = subst (λ l. insert l i q ≡ place event_cmp q l) same sides.1;
+    }
+
+-- one number of an event's own, and those of the others
+one_more : (R : Ordering) (number old : ℕ) → (R ≡ Equal → number ≡ old) → (if is_eq R then old + 1 else number) ≡ number + (if is_eq R then suc zero else zero)
+one_more Less number old h = omega arith
+one_more Equal number old h = omega (arith, h refl)
+one_more Greater number old h = omega arith
+
+one_less : (R : Ordering) (number old : ℕ) → (R ≡ Equal → number ≡ old) → (if is_eq R then old - 1 else number) ≡ number - (if is_eq R then suc zero else zero)
+one_less Less number old h = omega arith
+one_less Equal number old h = omega (arith, h refl)
+one_less Greater number old h = omega arith
+
+module _ (p : Present) (q : PlainEvent) where
   abbrev number : PlainEvent → ℕ
-  number e = number_in event_cmp e events numbers
+  number e = number_in event_cmp e p.events.items p.numbers.items
 
-  rising : Rising event_cmp events
-  rising = rising_of event_cmp events in_order
+  rising : Rising event_cmp p.events.items
+  rising = rising_of event_cmp p.events.items p.in_order
 
-  module _ (s : List PlainEvent) (same : s ≡ events) (q : PlainEvent) where
-    -- ---- where it was found
+  own : (old : ℕ) → number q ≡ old → (e : PlainEvent) → event_cmp e q ≡ Equal → number e ≡ old
+  own old is e t = ap number (exact_events.same e q t) ∙ is
 
-    module _ (k : ℕ) (bound : k < length s) (holds : HoldsAt (λ y. event_cmp y q ≡ Equal) s k) where
-      within : k < length events
-      within = subst (λ l. k < length l) same bound
+  -- ---- where it was found
 
-      pub in_numbers : k < length numbers
-      in_numbers = omega (arith, within, one_each)
+  module _ (k : ℕ) (a : FoundAt p q k) where
+    pub number_found : (x : ℕ) → x ≡ get_or p.numbers.items k x → x ≡ number_in event_cmp q p.events.items p.numbers.items
+    number_found x read = read_at p.numbers.items k x a.in_numbers read ∙ sym (number_at exact_events q p.events.items p.numbers.items k rising p.one_each a.in_events a.here)
 
-      here : get_or events k q ≡ q
-      here = exact_events.same (get_or events k q) q (ap (λ l. event_cmp (get_or l k q) q) (sym same) ∙ holds q)
+    pub number_some : 0 < number_in event_cmp q p.events.items p.numbers.items
+    number_some = above_0 (number q) (sym (has_number exact_events q p.events.items p.numbers.items p.one_each p.some_copies) ∙ a.there)
 
-      pub number_found : (x : ℕ) → x ≡ get_or numbers k x → x ≡ number_in event_cmp q events numbers
-      number_found x read = read_at numbers k x in_numbers read ∙ sym (number_at exact_events q events numbers k rising one_each within here)
+    pub one_each_set : (v : ℕ) → length (set p.numbers.items k v) ≡ length p.events.items
+    one_each_set v = length-set p.numbers.items k v ∙ p.one_each
 
-      pub number_some : 0 < number_in event_cmp q events numbers
-      number_some = above_0 (number_in event_cmp q events numbers) (sym (has_number exact_events q events numbers one_each some)
-          ∙ ap (has event_cmp q) (sym same) ∙ found exact_events q s k bound holds)
+    pub added_again : (x : ℕ) → x ≡ get_or p.numbers.items k x → (e : PlainEvent)
+        → number_in event_cmp e p.events.items (set p.numbers.items k (x + 1)) ≡ number_in event_cmp e p.events.items p.numbers.items + occurrences e (q ∷ [])
+    added_again x read e =
+        number_set exact_events q e p.events.items p.numbers.items k (x + 1) rising p.one_each a.in_events a.here ∙ one_more (event_cmp e q) (number e) x (own x (sym (number_found x read)) e)
 
-      pub one_each_set : (v : ℕ) → length (set numbers k v) ≡ length events
-      one_each_set v = length-set numbers k v ∙ one_each
+    pub taken_one : (x : ℕ) → x ≡ get_or p.numbers.items k x → (e : PlainEvent)
+        → number_in event_cmp e p.events.items (set p.numbers.items k (x - 1)) ≡ number_in event_cmp e p.events.items p.numbers.items - occurrences e (q ∷ [])
+    taken_one x read e =
+        number_set exact_events q e p.events.items p.numbers.items k (x - 1) rising p.one_each a.in_events a.here ∙ one_less (event_cmp e q) (number e) x (own x (sym (number_found x read)) e)
 
-      pub added_again : (x : ℕ) → x ≡ get_or numbers k x → (e : PlainEvent) → number_in event_cmp e events (set numbers k (x + 1)) ≡ number_in event_cmp e events numbers + occurrences e (q ∷ [])
-      added_again x read e = number_set exact_events q e events numbers k (x + 1) rising one_each within here ∙ at (event_cmp e q) refl
-        where
-          at : (c : Ordering) → event_cmp e q ≡ c → (if is_eq c then x + 1 else number e) ≡ number e + (if is_eq c then suc zero else zero)
-          at Less p = omega arith
-          at Equal p = let n : number e ≡ x = ap number (exact_events.same e q p) ∙ sym (number_found x read) in omega (arith, n)
-          at Greater p = omega arith
+    module _ (es : List PlainEvent) (ns : List ℕ) (events_are : es ≡ remove p.events.items k) (numbers_are : ns ≡ remove p.numbers.items k) where
+      pub taken_last : (x : ℕ) → x ≡ get_or p.numbers.items k x → x ≤ 1 → (e : PlainEvent) → number_in event_cmp e es ns ≡ number_in event_cmp e p.events.items p.numbers.items - occurrences e (q ∷ [])
+      taken_last x read few e =
+          let nothing : 0 ≡ x - 1 = omega (arith, few) in
+          (λ i. number_in event_cmp e (events_are i) (numbers_are i))
+          ∙ number_remove exact_events q e p.events.items p.numbers.items k rising p.one_each a.in_events a.here
+          ∙ ap (λ n. if is_eq (event_cmp e q) then n else number e) nothing
+          ∙ one_less (event_cmp e q) (number e) x (own x (sym (number_found x read)) e)
 
-      pub taken_one : (x : ℕ) → x ≡ get_or numbers k x → (e : PlainEvent) → number_in event_cmp e events (set numbers k (x - 1)) ≡ number_in event_cmp e events numbers - occurrences e (q ∷ [])
-      taken_one x read e = number_set exact_events q e events numbers k (x - 1) rising one_each within here ∙ at (event_cmp e q) refl
-        where
-          at : (c : Ordering) → event_cmp e q ≡ c → (if is_eq c then x - 1 else number e) ≡ number e - (if is_eq c then suc zero else zero)
-          at Less p = omega arith
-          at Equal p = let n : number e ≡ x = ap number (exact_events.same e q p) ∙ sym (number_found x read) in omega (arith, n)
-          at Greater p = omega arith
+      pub in_order_removed : rises event_cmp es ≡ true
+      in_order_removed = ap (rises event_cmp) events_are ∙ of_rising event_cmp (remove p.events.items k) (Rising-remove exact_events p.events.items k rising)
 
-      module _ (es : List PlainEvent) (ns : List ℕ) (events_are : es ≡ remove events k) (numbers_are : ns ≡ remove numbers k) where
-        pub taken_last : (x : ℕ) → x ≡ get_or numbers k x → x ≤ 1 → (e : PlainEvent) → number_in event_cmp e es ns ≡ number_in event_cmp e events numbers - occurrences e (q ∷ [])
-        taken_last x read few e = (λ i. number_in event_cmp e (events_are i) (numbers_are i)) ∙ number_remove exact_events q e events numbers k rising one_each within here ∙ at (event_cmp e q) refl
-          where
-            at : (c : Ordering) → event_cmp e q ≡ c → (if is_eq c then 0 else number e) ≡ number e - (if is_eq c then suc zero else zero)
-            at Less p = omega arith
-            at Equal p = let n : number e ≡ x = ap number (exact_events.same e q p) ∙ sym (number_found x read) in omega (arith, n, few)
-            at Greater p = omega arith
+      pub one_each_removed : length ns ≡ length es
+      one_each_removed =
+          let lengths : length (remove p.numbers.items k) ≡ length (remove p.events.items k) =
+          omega (arith, length-remove p.numbers.items k a.in_numbers, length-remove p.events.items k a.in_events, p.one_each) in
+          ap length numbers_are ∙ lengths ∙ ap length (sym events_are)
 
-        pub in_order_removed : rises event_cmp es ≡ true
-        in_order_removed = ap (rises event_cmp) events_are ∙ of_rising event_cmp (remove events k) (Rising-remove exact_events events k rising)
+      pub some_removed : positive ns ≡ true
+      some_removed = ap positive numbers_are ∙ positive_remove p.numbers.items k p.some_copies
 
-        pub one_each_removed : length ns ≡ length es
-        one_each_removed = ap length numbers_are ∙ lengths ∙ ap length (sym events_are)
-          where
-            lengths : length (remove numbers k) ≡ length (remove events k)
-            lengths = omega (arith, length-remove numbers k in_numbers, length-remove events k within, one_each)
+  -- ---- where it wasn't found
 
-        pub some_removed : positive ns ≡ true
-        some_removed = ap positive numbers_are ∙ positive_remove numbers k some
+  module _ (i : ℕ) (a : MissingAt p q i) where
+    pub number_missing : 0 ≡ number_in event_cmp q p.events.items p.numbers.items
+    number_missing = sym (number_none exact_events q p.events.items p.numbers.items a.none)
 
-    -- ---- where it wasn't found
+    pub taken_none : (e : PlainEvent) → number_in event_cmp e p.events.items p.numbers.items ≡ number_in event_cmp e p.events.items p.numbers.items - occurrences e (q ∷ [])
+    taken_none e = at (event_cmp e q) (own 0 (sym number_missing) e)
+      where
+        at : (c : Ordering) → (c ≡ Equal → number e ≡ 0) → number e ≡ number e - (if is_eq c then suc zero else zero)
+        at Less h = omega arith
+        at Equal h = omega (arith, h refl)
+        at Greater h = omega arith
 
-    module _ (i : ℕ) (bound : i ≤ length s) (parts : IsNonDecreasingBy (λ y. ordering_index (event_cmp y q)) s → IsPartitionPoint (λ y. event_cmp y q ≡ Less) (λ y. event_cmp y q ≡ Greater) s i) where
-      rising_s : Rising event_cmp s
-      rising_s = subst (λ l. Rising event_cmp l) (sym same) rising
+    module _ (es : List PlainEvent) (ns : List ℕ) (events_are : es ≡ insert p.events.items i q) (numbers_are : ns ≡ insert p.numbers.items i 1) where
+      pub added_first : (e : PlainEvent) → number_in event_cmp e es ns ≡ number_in event_cmp e p.events.items p.numbers.items + occurrences e (q ∷ [])
+      added_first e = (λ j. number_in event_cmp e (events_are j) (numbers_are j)) ∙ number_insert exact_events q e p.events.items p.numbers.items i 1 p.one_each a.in_events a.none
+          ∙ one_more (event_cmp e q) (number e) 0 (own 0 (sym number_missing) e)
 
-      none : has event_cmp q events ≡ false
-      none = ap (has event_cmp q) (sym same) ∙ (parted exact_events q s rising_s i bound parts).0
+      pub in_order_inserted : rises event_cmp es ≡ true
+      in_order_inserted = of_rising event_cmp es (rising_after_place exact_events q p.events.items es rising (events_are ∙ a.placed))
 
-      placed : insert events i q ≡ place event_cmp q events
-      placed = subst (λ l. insert l i q ≡ place event_cmp q l) same (parted exact_events q s rising_s i bound parts).1
+      pub one_each_inserted : length ns ≡ length es
+      one_each_inserted =
+          let lengths : length (insert p.numbers.items i 1) ≡ length (insert p.events.items i q) =
+          omega (arith, length-insert p.numbers.items i 1 (omega (arith, a.in_events, p.one_each)), length-insert p.events.items i q a.in_events, p.one_each) in
+          ap length numbers_are ∙ lengths ∙ ap length (sym events_are)
 
-      pub number_missing : 0 ≡ number_in event_cmp q events numbers
-      number_missing = sym (number_none exact_events q events numbers none)
-
-      pub taken_none : (e : PlainEvent) → number_in event_cmp e events numbers ≡ number_in event_cmp e events numbers - occurrences e (q ∷ [])
-      taken_none e = at (event_cmp e q) refl
-        where
-          at : (c : Ordering) → event_cmp e q ≡ c → number e ≡ number e - (if is_eq c then suc zero else zero)
-          at Less p = omega arith
-          at Equal p = let n : number e ≡ 0 = ap number (exact_events.same e q p) ∙ sym number_missing in omega (arith, n)
-          at Greater p = omega arith
-
-      module _ (es : List PlainEvent) (ns : List ℕ) (events_are : es ≡ insert events i q) (numbers_are : ns ≡ insert numbers i 1) where
-        pub added_first : (e : PlainEvent) → number_in event_cmp e es ns ≡ number_in event_cmp e events numbers + occurrences e (q ∷ [])
-        added_first e = (λ j. number_in event_cmp e (events_are j) (numbers_are j)) ∙ number_insert exact_events q e events numbers i 1 one_each (subst (λ l. i ≤ length l) same bound) none ∙ at (event_cmp e q) refl
-          where
-            at : (c : Ordering) → event_cmp e q ≡ c → (if is_eq c then 1 else number e) ≡ number e + (if is_eq c then suc zero else zero)
-            at Less p = omega arith
-            at Equal p = let n : number e ≡ 0 = ap number (exact_events.same e q p) ∙ sym number_missing in omega (arith, n)
-            at Greater p = omega arith
-
-        pub in_order_inserted : rises event_cmp es ≡ true
-        in_order_inserted = of_rising event_cmp es (rising_after_place exact_events q events es rising (events_are ∙ placed))
-
-        pub one_each_inserted : length ns ≡ length es
-        one_each_inserted = ap length numbers_are ∙ lengths ∙ ap length (sym events_are)
-          where
-            in_events : i ≤ length events
-            in_events = subst (λ l. i ≤ length l) same bound
-
-            lengths : length (insert numbers i 1) ≡ length (insert events i q)
-            lengths = omega (arith, length-insert numbers i 1 (omega (arith, in_events, one_each)), length-insert events i q in_events, one_each)
-
-        pub some_inserted : positive ns ≡ true
-        some_inserted = ap positive numbers_are ∙ positive_insert numbers i 1 (omega arith) some
+      pub some_inserted : positive ns ≡ true
+      some_inserted = ap positive numbers_are ∙ positive_insert p.numbers.items i 1 (omega arith) p.some_copies
 
 -- the copies after an `Add`
 pub added_one : {A E : Type 0} (r : Result A E) (input : Input) (event e : PlainEvent) (new old : ℕ) → input ≡ Add event → OnOk r (new ≡ old + occurrences e (event ∷ []))

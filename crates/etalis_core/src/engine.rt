@@ -48,6 +48,8 @@ impl Engine {
         ensures rules { IfOk result (λ engine. rules_of engine ≡ plain_rules checked) }
         ensures late { IfOk result (λ engine. late_of engine ≡ late) }
         ensures change { IfOk result (λ engine. last_change engine ≡ record { gone = []; come = [] }) }
+        ensures resting { IfOk result (λ engine. is_working engine ≡ false) }
+        ensures unspent { IfOk result (λ engine. is_spent engine ≡ false) }
     {
         let present = Present::new(alloc);
         let table = Table::new(alloc, &checked, present.events())?;
@@ -160,7 +162,7 @@ impl Engine {
     {
         let (bound, changed) = match self.state {
             State::Working { bound, changed } => (bound, changed),
-            _ => return Err(EngineFault::Spent),
+            State::Resting | State::Spent => return Err(EngineFault::Spent),
         };
         self.state = State::Spent;
         self.table
