@@ -1,5 +1,5 @@
 -- Pieces one after another.
-use Rattle.std.proofs.Common.{◌≡◌, ℕ, suc, ◌+◌, ◌≤◌, ◌<◌, Bool, true, false, cond, eqb, eqb-true, List, [], ◌∷◌, ◌++◌, Option, Some, length, take, get_or, refl, sym, ap, ◌∙◌, subst, arith, append-nil, append_assoc}
+use Rattle.std.proofs.Common.{◌≡◌, ℕ, suc, ◌+◌, ◌≤◌, ◌<◌, Bool, true, false, cond, eqb, eqb-true, List, [], ◌∷◌, ◌++◌, Option, Some, length, take, get_or, refl, sym, ap, ◌∙◌, subst, arith, append-nil, append_assoc, length-append}
 use Rattle.std.specs.Io.KnownBytes.{append_known}
 use Rattle.flow_ports.specs.Flow.{Gives, GivesPart}
 use Rattle.flow_ports.proofs.FlowLemmas.{append_known-nil, gives_more}
@@ -56,6 +56,14 @@ feeds_more a b c xs ys p q = record {
 pub part_none : (a : Kept) (got : Option (List ℕ)) (piece : List ℕ) → got ≡ a.got → FeedsPart a got piece
 part_none a got piece e = record { sent = (0, e ∙ sym (append_known-nil a.got)) }
 
+-- ---- how many lines a piece ends
+
+pub length-ended_from : (p xs : List ℕ) → length (ended_from p xs) ≤ length xs
+length-ended_from p [] = omega arith
+length-ended_from p (x ∷ xs) =
+    elim (eqb x 10) as (λ t. length (cond t (without_cr p ∷ ended_from [] xs) (ended_from (p ++ x ∷ []) xs)) ≤ length (x ∷ xs))
+    [ true ↦ omega (arith, length-ended_from [] xs) | false ↦ omega (arith, length-ended_from (p ++ x ∷ []) xs) ]
+
 -- ---- pieces with the session and the reader
 
 -- Of a part of a line and a piece, all lines were taken whose line feeds are among the bytes done; the reader holds the rest.
@@ -91,10 +99,18 @@ drained_line s part piece got t u a b p q d raw more e plain h text next =
       });
     }
 
+-- the lines so far are no more than the bytes of the piece
+pub drained_count : (s : State) (part piece : List ℕ) (got sent : Option (List ℕ)) (session : Session) (reader : LineReader) (d : Drained s part piece got sent session reader) → NoFeed part → d.reached.count ≤ s.count + length piece
+drained_count s part piece got sent session reader d plain =
+    let e : d.reached.count ≡ s.count + length (ended d.done) = ap (λ (x : State). x.count) d.feeds.state ∙ count-after s (ended d.done) in
+    let f : length (ended_from part piece) ≡ length (ended d.done) + length (ended_from (rest d.done) d.left) =
+    ap length (ended-front part piece plain ∙ ap ended d.whole ∙ ended_from-append [] d.done d.left) ∙ length-append (ended d.done) (ended_from (rest d.done) d.left) in
+    omega (arith, e, f, length-ended_from part piece)
+
 -- no line is left
-pub drained_all : (s : State) (part piece : List ℕ) (got sent : Option (List ℕ)) (session : Session) (reader : LineReader) (d : Drained s part piece got sent session reader) → NoFeed part → NoFeed d.left
-    → FedTo (record { state = s; part = part; got = got }) session reader sent piece
-drained_all s part piece got sent session reader d whole plain =
+pub drained_all : (s : State) (part piece : List ℕ) (got sent : Option (List ℕ)) (session : Session) (reader last : LineReader) (d : Drained s part piece got sent session reader) → NoFeed part → NoFeed d.left → Holds last d.left
+    → FedTo (record { state = s; part = part; got = got }) session last sent piece
+drained_all s part piece got sent session reader last d whole plain holds =
     let lines : ended d.left ≡ [] = ended-open d.left plain in
     let f : Feeds (record { state = s; part = []; got = got }) (record { state = d.reached; part = d.left; got = sent }) (d.done ++ d.left) = feeds_more _ (record { state = d.reached; part = []; got = sent }) _ d.done d.left d.feeds (record {
       state = ap (after d.reached) (sym lines);
@@ -106,7 +122,7 @@ drained_all s part piece got sent session reader d whole plain =
     record {
       reached = d.reached;
       rest = d.left;
-      between = record { stands = d.stands; holds = d.holds; plain = plain };
+      between = record { stands = d.stands; holds = holds; plain = plain };
       feeds = record {
         state = f.state ∙ ap (after s) same_ended;
         part = f.part ∙ same_rest;
@@ -135,13 +151,7 @@ pub part_sent : (s : State) (session : Session) (reader : LineReader) (p t u pie
     → FeedsPart (record { state = s; part = p; got = got }) got' piece
 part_sent s session reader p t u piece got got' e f sent = record { sent = (sent.0, sent.1 ∙ ap (λ r. append_known got (take sent.0 r)) (gathered s p f.rest t u piece f.reached e f.feeds)) }
 
--- ---- how many lines a piece ends
-
-pub length-ended_from : (p xs : List ℕ) → length (ended_from p xs) ≤ length xs
-length-ended_from p [] = omega arith
-length-ended_from p (x ∷ xs) =
-    elim (eqb x 10) as (λ t. length (cond t (without_cr p ∷ ended_from [] xs) (ended_from (p ++ x ∷ []) xs)) ≤ length (x ∷ xs))
-    [ true ↦ omega (arith, length-ended_from [] xs) | false ↦ omega (arith, length-ended_from (p ++ x ∷ []) xs) ]
+-- ---- how many lines were taken
 
 pub feeds_count : (a b : Kept) (xs : List ℕ) → Feeds a b xs → b.state.count ≤ a.state.count + length xs
 feeds_count a b xs p =

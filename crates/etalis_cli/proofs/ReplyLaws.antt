@@ -1,5 +1,6 @@
 -- The reply to a line, by what it says and how that is judged.
 use Rattle.std.proofs.Common.{◌≡◌, ℕ, ◌<◌, ◌^◌, Bool, true, false, Option, Some, None, List, [], ◌∷◌, ◌++◌, length, map, refl, sym, ap, ◌∙◌, arith, append_assoc, append-nil}
+use Rattle.std.specs.Prelude.{OnOk, Result, Ok, Err}
 use Rattle.std.specs.List.{flat_map}
 use Rattle.std.proofs.lemmas.List.Concat.{flat_map-append}
 use Rattle.ev_term.specs.Presence.{copies, judge, Said, Says, Fails, Verdict, Taken, Refused, verdict, verdict_of, after_verdict}
@@ -102,3 +103,9 @@ lines_plus (d ∷ ds) = ap (λ t. change_text 43 d ++ t) (lines_plus ds)
 
 pub lines_both : (c : Change) → flat_map line_of (signed c.gone c.come) ≡ both_texts c
 lines_both c = flat_map-append line_of (map (λ d. (Minus, d)) c.gone) (map (λ d. (Plus, d)) c.come) ∙ (λ i. lines_minus c.gone i ++ lines_plus c.come i)
+
+-- ---- an answer that is Ok
+
+pub any_ok : {T E P : Type 0} (r : Result T E) → P → OnOk r P
+any_ok (Ok x) p = p
+any_ok (Err e) p = tt

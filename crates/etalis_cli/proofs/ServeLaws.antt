@@ -1,21 +1,29 @@
 -- What a run over the lines of a source has done, and how it ends.
-use Rattle.std.proofs.Common.{◌≡◌, ℕ, ◌+◌, ◌-◌, ◌^◌, ◌<◌, ◌≤◌, min, List, [], ◌++◌, Option, Some, None, Result, Ok, Err, length, take, drop, refl, sym, ap, ◌∙◌, subst, inr, arith, append-nil, append_assoc, length-append}
+use Rattle.std.proofs.Common.{◌≡◌, ℕ, ◌+◌, ◌-◌, ◌^◌, ◌<◌, ◌≤◌, min, List, [], ◌∷◌, ◌++◌, Option, Some, None, Result, Ok, Err, length, take, drop, refl, sym, ap, ◌∙◌, subst, inr, arith, append-nil, append_assoc, length-append}
 use Rattle.std.specs.Prelude.{OnOk, OnErr, IsErrOf}
 use Rattle.std.proofs.lemmas.List.{take-append-le, take_all, take_min, take-append-drop}
 use Rattle.std.proofs.Math.Seq.{take-append-add}
 use Rattle.std.specs.Io.KnownBytes.{append_known}
 use Rattle.flow_ports.specs.Flow.{Takes, Gives, GivesPart, IsAtEnd}
-use Rattle.flow_ports.proofs.FlowLemmas.{append_known-append, gives_more, takes_more}
-use Rattle.ev_term.specs.Lines.{ended, rest, ended_from, last_line, lines_of, ended_from-append}
+use Rattle.flow_ports.proofs.FlowLemmas.{append_known-append, prepend_known-nil, gives_more, takes_more}
+use Rattle.ev_term.specs.Lines.{without_cr, ended, rest, ended_from, last_line, lines_of, ended_from-append}
 use Rattle.line_reader.specs.declared.reading.LineReader.{LineReader}
 use Rattle.pattern_meaning.specs.Replies.{State, end_text}
-use Rattle.etalis_cli.specs.Output.{Setting, start, after, replies, out_text}
+use Rattle.etalis_cli.specs.Output.{Setting, start, after, reply_to, replies, out_text}
 use Rattle.etalis_cli.specs.Feeds.{Kept, Feeds, Between, FedTo, FeedsPart}
 use Rattle.etalis_cli.specs.Outcome.{begin, Progress, Reached, tail, PartOf, Served}
 use Rattle.etalis_cli.specs.declared.session.Session.{Session}
 use Rattle.etalis_cli.specs.declared.serving.ServeFault.{ServeFault}
 use Rattle.etalis_cli.specs.declared.serving.ServeFault.TheVariants.{Read, Write, Memory, TooLong}
 use Rattle.etalis_cli.proofs.FeedLaws.{count-after, replies-append, feeds_none, feeds_more, feeds_count, replies_both, second}
+
+-- ---- behind the last line feed
+
+pub tail_some : (s : State) (part t u v : List ℕ) (n : ℕ) → (part ≡ [] → ⊥) → t ≡ [] → u ≡ t ++ reply_to s (without_cr part) → n ≡ s.count + 1 → v ≡ u ++ end_text n → v ≡ tail s part
+tail_some s [] t u v n p e g m f = absurd (p refl)
+tail_some s (b ∷ bytes) t u v n p e g m f =
+    let r : List ℕ = reply_to s (without_cr (b ∷ bytes)) in
+    f ∙ (λ i. (g ∙ ap (λ x. x ++ r) e) i ++ end_text (m i)) ∙ ap (λ x. x ++ end_text (s.count + 1)) (sym (append-nil r))
 
 module _ (w : Setting) where
   pub progress_more : (left l1 l2 got : Option (List ℕ)) (now next : Kept) (n k : ℕ) (done piece : List ℕ)

@@ -1,11 +1,11 @@
 // Lines to their replies.
-ghost use Rattle.std.specs.Prelude.{◌≡◌, ◌++◌, ◌∷◌, ◌<◌, ◌≤◌, ◌^◌, ℕ, List, [], length, false, OnOk};
+ghost use Rattle.std.specs.Prelude.{◌≡◌, ◌++◌, ◌∷◌, ◌<◌, ◌≤◌, ◌^◌, ℕ, List, [], length, true, false, OnOk};
 ghost use Rattle.ev_term.specs.Lines.{without_cr};
 ghost use Rattle.ev_term.specs.Presence.{verdict, after_verdict};
 ghost use Rattle.line_reader.specs.Cutting.{IsLine};
 ghost use Rattle.pattern_meaning.specs.Replies.{change_by, both_texts, reply, reply_to_input, reply_text};
 ghost use Rattle.event_reader.specs.Machine.{heard};
-ghost use Rattle.etalis_core.specs.StandsFor.{StandsFor, CanBegin, rules_of, late_of, last_change, is_working, is_spent};
+ghost use Rattle.etalis_core.specs.StandsFor.{StandsFor, WorksFrom, CanBegin, rules_of, late_of, last_change, is_working, is_spent};
 ghost use Rattle.etalis_cli.specs.Replying.{refusal_of, is_quiet};
 
 use detect_writer::{change_text, ok_text, refusal_text};
@@ -40,6 +40,24 @@ fn is_quiet(input: &Input) -> bool
     matches!(input, Input::Nothing)
 }
 
+// Has the engine work until the input that was begun is done.
+fn finish(engine: &mut Engine) -> Result<(), AllocError>
+    requires { is_working engine.old ≡ true }
+    ensures stands { (h : List Input) (input : Input) → WorksFrom engine.old h input → OnOk result (StandsFor engine.new (h ++ input ∷ [])) }
+    ensures change { (h : List Input) (input : Input) → WorksFrom engine.old h input
+        → OnOk result (last_change engine.new ≡ change_by (rules_of engine.old) h input) }
+    ensures rules { OnOk result (rules_of engine.new ≡ rules_of engine.old) }
+    ensures late { OnOk result (late_of engine.new ≡ late_of engine.old) }
+{
+    loop {
+        match engine.turn(UNITS) {
+            Ok(Progress::More) => {}
+            Ok(Progress::Done) => return Ok(()),
+            Err(_) => return Err(AllocError),
+        }
+    }
+}
+
 // Has the engine take an input that is fine.
 fn take(engine: &mut Engine, input: Input) -> Result<(), AllocError>
     requires { (h : List Input) × CanBegin engine.old h input }
@@ -49,15 +67,9 @@ fn take(engine: &mut Engine, input: Input) -> Result<(), AllocError>
     ensures rules { OnOk result (rules_of engine.new ≡ rules_of engine.old) }
     ensures late { OnOk result (late_of engine.new ≡ late_of engine.old) }
 {
-    if engine.begin(input).is_err() {
-        return Err(AllocError);
-    }
-    loop {
-        match engine.turn(UNITS) {
-            Ok(Progress::More) => {}
-            Ok(Progress::Done) => return Ok(()),
-            Err(_) => return Err(AllocError),
-        }
+    match engine.begin(input) {
+        Ok(()) => finish(engine),
+        Err(_) => Err(AllocError),
     }
 }
 
@@ -132,7 +144,8 @@ pub fn reply_line(
     line: Line<'_>,
     out: &mut Vec<u8>,
 ) -> Result<(), AllocError>
-    requires { (h : List Input) × StandsFor engine.old h × (length h < 2 ^ 63) }
+    requires stands { (h : List Input) × StandsFor engine.old h × (length h < 2 ^ 63) }
+    requires line { (raw : List ℕ) × IsLine line raw }
     ensures stands { (h : List Input) (raw : List ℕ) → StandsFor engine.old h → IsLine line.entry raw
         → OnOk result (StandsFor engine.new (after_verdict h (verdict (late_of engine.old) h (heard (without_cr raw))))) }
     ensures text { (h : List Input) (raw : List ℕ) → StandsFor engine.old h → IsLine line.entry raw

@@ -43,10 +43,13 @@ fn last_text(
         → OnOk result (text.new.items ≡ tail s part) }
 {
     text.clear();
-    if let Some(line) = reader.finish() {
-        session.answer(line, text)?;
+    match reader.finish() {
+        Some(line) => {
+            session.answer(line, text)?;
+            end_text(session.count(), text)
+        }
+        None => end_text(session.count(), text),
     }
-    end_text(session.count(), text)
 }
 
 // Writes what stands behind the replies to all lines that a line feed ends.

@@ -49,7 +49,8 @@ impl Session {
     /// Takes a line, and appends its reply. An `Err` may have taken a part of it, so no more lines
     /// should follow one.
     pub fn answer(&mut self, line: Line<'_>, out: &mut Vec<u8>) -> Result<(), AllocError>
-        requires { (s : State) × StandsFor self.old s × (s.count < 2 ^ 63) }
+        requires stands { (s : State) × StandsFor self.old s × (s.count < 2 ^ 63) }
+        requires line { (raw : List ℕ) × IsLine line raw }
         ensures reply { (s : State) (raw : List ℕ) → StandsFor self.old s → IsLine line.entry raw
             → OnOk result (out.new.items ≡ out.old.items ++ reply_to s (without_cr raw)) }
         ensures after { (s : State) (raw : List ℕ) → StandsFor self.old s → IsLine line.entry raw

@@ -1,24 +1,25 @@
 use Rattle.std.proofs.Common.{rules, arith, ◌≤◌, ◌<◌, ◌^◌, ◌++◌, take, length, inl}
 use Rattle.std.proofs.lemmas.List.{length-take, length-take-le, length-append}
+use Rattle.etalis_cli.specs.StandsFor.{setting_of}
 use Rattle.etalis_cli.proofs.ServeLaws.{reached_more, reached_count, served_end, served_long, reached_part, reached_takes}
 use Rattle.etalis_cli.proofs.serving.serve.Goals as goal
 
 pub finish-requires : goal.finish-requires
-finish-requires g c = let (done, r) = c.loop-taken.invariant.progress in omega (arith, reached_count _ _ _ _ _ _ _ _ _ r)
+finish-requires g c = let (done, r) = c.loop-taken.invariant.progress in (r.reached, r.rest, r.between, omega (arith, reached_count _ _ _ _ _ _ _ _ _ r))
 
 pub returns-then-n-eq0-clause-served : goal.returns-then-n-eq0-clause-served
 returns-then-n-eq0-clause-served g c =
     let (done, r) = c.loop-taken.invariant.progress in
     let taken = rw c.if-n-eq0.true at c.in-Ok.ensures.bytes in
     let end = c.in-Ok.ensures.end c.if-n-eq0.true (search rules) in
-    let ok = rw c.deref.ensures.value at c.finish.ensures.ok r.reached r.stands in
-    let err = rw c.deref.ensures.value at c.finish.ensures.err r.reached r.stands in
+    let ok = c.finish.ensures.ok r.reached r.rest r.between in
+    let err = c.finish.ensures.err r.reached r.rest r.between in
     (done, served_end _ _ _ _ _ _ _ _ _ _ _ r.progress (search rules) taken end ok err c.finish.ensures.read c.finish.ensures.too_long)
 
 pub feed-requires : goal.feed-requires
 feed-requires g c =
     let (done, r) = c.loop-taken.invariant.progress in
-    omega (arith, reached_count _ _ _ _ _ _ _ _ _ r, length-take c.in-Ok.n c.read.new.buf)
+    (r.reached, r.rest, r.between, omega (arith, reached_count _ _ _ _ _ _ _ _ _ r, length-take c.in-Ok.n c.read.new.buf))
 
 pub loop-taken-preserved : goal.loop-taken-preserved
 loop-taken-preserved g c =
@@ -28,7 +29,7 @@ loop-taken-preserved g c =
     let within : n ≤ length c.read.new.buf = search rules in
     let len = length-take-le n c.read.new.buf within in
     record {
-      progress = (done ++ piece, reached_more _ _ _ _ _ c.loop-taken.session c.feed.new.session c.loop-taken.part.items c.feed.new.part.items _ _ _ n _ _ r c.in-Ok.ensures.bytes len c.in-Ok-feed.ensures.ok);
+      progress = (done ++ piece, reached_more _ _ _ _ _ c.loop-taken.session c.feed.new.session c.loop-taken.reader c.feed.new.reader _ _ _ n _ _ r c.in-Ok.ensures.bytes len c.in-Ok-feed.ensures.ok);
       source_count = search rules;
       sink_count = search rules;
     }
@@ -40,8 +41,8 @@ returns-in-Err-Memory-clause-served g c =
     let small : length piece ≤ 8192 = omega (arith, length-take c.in-Ok.n c.read.new.buf) in (
       done ++ piece,
       record {
-        takes = reached_takes _ _ _ _ _ c.loop-taken.session c.loop-taken.part.items _ _ _ _ r c.in-Ok.ensures.bytes;
-        ends = reached_part _ _ _ (g.I.Source.left c.read.new.self) _ _ c.loop-taken.session c.loop-taken.part.items _ _ _ piece r small c.in-Err-Memory.ensures.err;
+        takes = reached_takes _ _ _ _ _ c.loop-taken.session c.loop-taken.reader _ _ _ _ r c.in-Ok.ensures.bytes;
+        ends = reached_part _ _ _ (g.I.Source.left c.read.new.self) _ _ c.loop-taken.session c.loop-taken.reader _ _ _ piece r small c.in-Err-Memory.ensures.err;
       },
     )
 
@@ -56,8 +57,8 @@ returns-then-taken-lt-LIMIT-clause-served g c =
     let low : length (done ++ piece) < 2 ^ 60 = omega (arith, length-append done piece, len, r.progress.count) in (
       done ++ piece,
       record {
-        takes = reached_takes _ _ _ _ _ c.loop-taken.session c.loop-taken.part.items _ _ _ _ r c.in-Ok.ensures.bytes;
-        ends = (low, reached_part _ _ _ (g.I.Source.left c.read.new.self) _ _ c.loop-taken.session c.loop-taken.part.items _ _ _ piece r small c.in-Err-Write.ensures.err);
+        takes = reached_takes _ _ _ _ _ c.loop-taken.session c.loop-taken.reader _ _ _ _ r c.in-Ok.ensures.bytes;
+        ends = (low, reached_part _ _ _ (g.I.Source.left c.read.new.self) _ _ c.loop-taken.session c.loop-taken.reader _ _ _ piece r small c.in-Err-Write.ensures.err);
       },
     )
 
@@ -72,8 +73,8 @@ returns-in-Err-Write-clause-served g c =
     let high : 2 ^ 60 ≤ length (done ++ piece) = omega (arith, length-append done piece, len, r.progress.count) in (
       done ++ piece,
       record {
-        takes = reached_takes _ _ _ _ _ c.loop-taken.session c.loop-taken.part.items _ _ _ _ r c.in-Ok.ensures.bytes;
-        ends = (high, reached_part _ _ _ (g.I.Source.left c.read.new.self) _ _ c.loop-taken.session c.loop-taken.part.items _ _ _ piece r small c.in-Err-Write.ensures.err, inl (search rules));
+        takes = reached_takes _ _ _ _ _ c.loop-taken.session c.loop-taken.reader _ _ _ _ r c.in-Ok.ensures.bytes;
+        ends = (high, reached_part _ _ _ (g.I.Source.left c.read.new.self) _ _ c.loop-taken.session c.loop-taken.reader _ _ _ piece r small c.in-Err-Write.ensures.err, inl (search rules));
       },
     )
 

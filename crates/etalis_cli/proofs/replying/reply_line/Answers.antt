@@ -1,0 +1,33 @@
+use Rattle.std.proofs.Common.{◌++◌, ◌≤◌, length, sym, ap, ◌∙◌, subst}
+use Rattle.std.proofs.lemmas.Result.{on_ok_weaker}
+use Rattle.ev_term.specs.Lines.{without_cr}
+use Rattle.ev_term.specs.Presence.{verdict}
+use Rattle.ev_term.specs.declared.inputs.Refusal.TheVariants.{Syntax}
+use Rattle.line_reader.specs.Cutting.{IsLine}
+use Rattle.event_reader.specs.Machine.{heard}
+use Rattle.etalis_core.specs.StandsFor.{StandsFor, rules_of, late_of}
+use Rattle.etalis_cli.proofs.ReplyLaws.{fails, refused_text, refused_history, any_ok}
+use Rattle.etalis_cli.proofs.SessionLaws.{heard_long}
+use Rattle.etalis_cli.proofs.replying.reply_line.Goals as goal
+
+pub take_line-requires-clause-short : goal.take_line-requires-clause-short
+take_line-requires-clause-short c =
+    let (raw, is) = c.requires.line in
+    let line = subst (λ line. IsLine line raw) c.in-Bytes.is is in
+    subst (λ l. length l ≤ 65536) (sym line.0) line.1
+
+pub returns-in-Long-clause-stands : goal.returns-in-Long-clause-stands
+returns-in-Long-clause-stands c = λ h raw p is.
+    let line = without_cr raw in
+    let late = late_of c.args.engine.now in
+    let says = heard_long line (subst (λ line. IsLine line raw) c.in-Long.is is) in
+    any_ok c.refusal_text.result (subst (StandsFor c.args.engine.now) (refused_history h (verdict late h (heard line)) (Syntax 65536) (fails late h line 65536 says)) p)
+
+pub returns-in-Long-clause-text : goal.returns-in-Long-clause-text
+returns-in-Long-clause-text c = λ h raw p is.
+    let line = without_cr raw in
+    let late = late_of c.args.engine.now in
+    let says = heard_long line (subst (λ line. IsLine line raw) c.in-Long.is is) in
+    on_ok_weaker c.refusal_text.result
+    (λ e. e ∙ ap (λ t. c.args.out.now.items ++ t) (refused_text (rules_of c.args.engine.now) h c.args.number (verdict late h (heard line)) (Syntax 65536) (fails late h line 65536 says)))
+    c.refusal_text.ensures.ok
