@@ -41,7 +41,7 @@ is_spent_state Spent = true
 abbrev pub is_working : Engine → Bool
 is_working engine = is_working_state engine.state
 
--- whether a call has answered that there is no memory
+-- whether a call has found no memory
 abbrev pub is_spent : Engine → Bool
 is_spent engine = is_spent_state engine.state
 
@@ -52,7 +52,7 @@ change_of table = record { gone = table.gone.items; come = table.come.items }
 abbrev pub last_change : Engine → Change
 last_change engine = change_of engine.table
 
--- how much is to be done until the input is done: a turn leaves nothing
+-- how much is to be done until the input is done; one turn does it all, so nothing is counted
 abbrev pub work_left : Engine → ℕ
 work_left engine = 0
 
@@ -62,7 +62,7 @@ work_left engine = 0
 abbrev pub number_of : Present → PlainEvent → ℕ
 number_of present e = number_in event_cmp e present.events.items present.numbers.items
 
--- a history with the copies that are kept, and with the events that are kept as those that are present
+-- the numbers that are kept are the copies of this history, and the events that are kept are those that are present after it
 pub record Keeps (kept : Present) (history : List Input) : Type 0 where
   pub numbers : (e : PlainEvent) → number_of kept e ≡ copies history e
   pub events : kept.events.items ≡ present history
@@ -79,7 +79,7 @@ has_changed Resting = false
 has_changed (Working b changed) = changed
 has_changed Spent = false
 
--- an accepted history with the engine's bound, events, copies and standing detections, all of whose inputs are done
+-- this history is accepted, its inputs are done, and the engine has its bound, its copies and what stands over its events
 pub record StandsFor (engine : Engine) (history : List Input) : Type 0 where
   pub accepted : IsAccepted (late_of engine) history
   pub same_bound : engine.bound ≡ bound (late_of engine) history
@@ -88,8 +88,8 @@ pub record StandsFor (engine : Engine) (history : List Input) : Type 0 where
   pub not_working : is_working engine ≡ false
   pub not_spent : is_spent engine ≡ false
 
--- an accepted history with the engine's bound and standing detections, and an input that is fine after it, is begun and isn't
--- done: the events and copies are those after it
+-- this history is accepted, its inputs are done, and this input, which is fine after it, is begun: the engine has the bound of
+-- the history and what stands over its events, and the copies and the next bound of the history with the input
 pub record WorksFrom (engine : Engine) (history : List Input) (input : Input) : Type 0 where
   pub accepted : IsAccepted (late_of engine) history
   pub fine : judge (late_of engine) history input ≡ Fine
@@ -110,7 +110,7 @@ HasRoom number (Take e) = Unit {0}
 HasRoom number (Advance t) = Unit {0}
 HasRoom number Nothing = Unit {0}
 
--- a history that the engine stands for, after which the input is fine, with room for its event
+-- the engine stands for this history, the input is fine after it, and there is room for its event
 pub record CanBegin (engine : Engine) (history : List Input) (input : Input) : Type 0 where
   pub stands : StandsFor engine history
   pub fine : judge (late_of engine) history input ≡ Fine
