@@ -1,6 +1,14 @@
-// Atoms that several tests take.
+// Atoms and rules that several tests take.
+ghost use Rattle.std.specs.Prelude.{◌≡◌, [], true, map, IfOk};
+ghost use Rattle.rule_ast.specs.Plain.{plain_statement, plain_rules};
+ghost use Rattle.rule_ast.specs.Shaped.{IsShaped};
+ghost use Rattle.rule_check.specs.Names.{shown_names};
+
 use ev_term::{Atom, Name, Pat, PatAtom, Pats, Slot, Term, Terms};
+use rule_ast::{RuleSet, Statement};
+use rule_parser::parse;
 use std::alloc::{AllocError, Global};
+use std::test::Fail;
 
 pub(crate) fn atom(alloc: Global, name: &str, args: &[i64]) -> Result<Atom, AllocError> {
     let mut terms = Vec::new(alloc);
@@ -30,4 +38,30 @@ pub(crate) fn pattern(
         name: Name::new(alloc, name)?,
         args: Pats::new(alloc, pats)?,
     })
+}
+
+// Whether there are rules alone.
+fn are_rules(statements: &[Statement]) -> bool
+    ensures { result ≡ true → shown_names (map plain_statement statements.now) ≡ [] }
+{
+    for statement in statements {
+        match statement {
+            Statement::Rule(_) => {}
+            Statement::Show(_) => return false,
+        }
+    }
+    true
+}
+
+// The rules of a text without `show`.
+pub(crate) fn rules(alloc: Global, text: &str) -> Result<RuleSet, Fail>
+    ensures shaped { IfOk result (λ r. IsShaped (plain_rules r)) }
+    ensures silent { IfOk result (λ r. shown_names (plain_rules r) ≡ []) }
+{
+    let rules = parse(alloc, text)?;
+    if are_rules(&rules.statements) {
+        Ok(rules)
+    } else {
+        Err(Fail::new("a show statement"))
+    }
 }

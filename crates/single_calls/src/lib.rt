@@ -4,7 +4,11 @@
 #[cfg(test)]
 mod bindings;
 #[cfg(test)]
+mod checks;
+#[cfg(test)]
 mod conditions;
+#[cfg(test)]
+mod finds;
 #[cfg(test)]
 mod fixtures;
 #[cfg(test)]
@@ -15,3 +19,5 @@ mod slots;
 mod terms;
 #[cfg(test)]
 mod tokens;
+#[cfg(test)]
+mod writes;
