@@ -1,2 +1,23 @@
-//! Each public call of the lower crates once.
+//! Each public call of the lower crates once, on its happy path.
 #![tactic(auto)]
+
+#[cfg(test)]
+mod bindings;
+#[cfg(test)]
+mod checks;
+#[cfg(test)]
+mod conditions;
+#[cfg(test)]
+mod finds;
+#[cfg(test)]
+mod fixtures;
+#[cfg(test)]
+mod parses;
+#[cfg(test)]
+mod slots;
+#[cfg(test)]
+mod terms;
+#[cfg(test)]
+mod tokens;
+#[cfg(test)]
+mod writes;

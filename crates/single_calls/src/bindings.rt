@@ -1,0 +1,102 @@
+// Bindings, rows and the matching of atoms.
+use crate::fixtures::{atom, pattern};
+use ev_bind::{Binding, Row, cmp_rows, instance_atom, instance_of, match_atom};
+use ev_term::{Pat, Slot, Slots, Span, Term};
+use std::alloc::{AllocError, Global};
+use std::test::Fail;
+
+fn is_number(term: &Term, value: i64) -> bool {
+    match term {
+        Term::Num(number) => *number == value,
+        _ => false,
+    }
+}
+
+// Whether a binding has exactly these pairs of slot and number.
+fn has_pairs(binding: &Binding, wanted: &[(u8, i64)]) -> bool {
+    let pairs = binding.pairs();
+    if pairs.len() != wanted.len() {
+        return false;
+    }
+    for i in 0..pairs.len() {
+        if pairs[i].0.number() != wanted[i].0 || !is_number(&pairs[i].1, wanted[i].1) {
+            return false;
+        }
+    }
+    true
+}
+
+// The binding of one slot to a number.
+fn single(alloc: Global, slot: Slot, value: i64) -> Result<Binding, Fail> {
+    let binding = Binding::empty().extend(alloc, slot, &Term::Num(value))?;
+    Ok(binding.ok_or("a binding")?)
+}
+
+#[test]
+fn bindings_grow(rt: HostRuntime) -> Result<(), Fail> {
+    let alloc = rt.alloc();
+    let first = single(alloc, Slot::new(0), 1)?;
+    assert!(rt; has_pairs(&first, &[(0, 1)]));
+    assert!(rt; has_pairs(&first.share()?, &[(0, 1)]));
+    assert!(rt; first.extend(alloc, Slot::new(0), &Term::Num(2))?.is_none());
+    assert!(rt; matches!(first.get(Slot::new(0)), Some(Term::Num(1))));
+    assert!(rt; first.get(Slot::new(1)).is_none());
+    Ok(())
+}
+
+#[test]
+fn bindings_merge(rt: HostRuntime) -> Result<(), Fail> {
+    let alloc = rt.alloc();
+    let first = single(alloc, Slot::new(0), 1)?;
+    let second = single(alloc, Slot::new(1), 2)?;
+    let both = first.merge(alloc, &second)?.ok_or("both")?;
+    assert!(rt; has_pairs(&both, &[(0, 1), (1, 2)]));
+    let slots = Slots::empty().add(Slot::new(1));
+    assert!(rt; has_pairs(&both.project(alloc, &slots)?, &[(1, 2)]));
+    assert!(rt; both.same_on(&second, &slots) && !both.same_on(&first, &slots));
+    Ok(())
+}
+
+#[test]
+fn rows_come_by_span(rt: HostRuntime) -> Result<(), Fail> {
+    let row = Row {
+        binding: single(rt.alloc(), Slot::new(0), 1)?,
+        span: Span::new(1, 2),
+    };
+    let later = Row {
+        binding: Binding::empty(),
+        span: Span::new(1, 3),
+    };
+    assert!(rt; cmp_rows(&row.share()?, &row).is_eq());
+    assert!(rt; row < later);
+    Ok(())
+}
+
+#[test]
+fn atoms_match(rt: HostRuntime) -> Result<(), Fail> {
+    let alloc = rt.alloc();
+    let atom = atom(alloc, "a", &[1, 2])?;
+    let zero = Some(Slot::new(0));
+    let twice = pattern(alloc, "a", &[zero, zero])?;
+    assert!(rt; match_atom(alloc, &twice, &atom)?.is_none());
+    let once = pattern(alloc, "a", &[zero, None])?;
+    let binding = match_atom(alloc, &once, &atom)?.ok_or("once")?;
+    assert!(rt; has_pairs(&binding, &[(0, 1)]));
+    Ok(())
+}
+
+#[test]
+fn values_take_the_place_of_variables(rt: HostRuntime) -> Result<(), Fail> {
+    let alloc = rt.alloc();
+    let zero = Slot::new(0);
+    let binding = single(alloc, zero, 1)?;
+    let made = instance_atom(
+        alloc,
+        &pattern(alloc, "a", &[Some(zero), Some(zero)])?,
+        &binding,
+    )?;
+    assert!(rt; matches!(made.args.as_slice(), [Term::Num(1), Term::Num(1)]));
+    let value = instance_of(alloc, &Pat::Var(zero), &binding)?;
+    assert!(rt; is_number(&value, 1));
+    Ok(())
+}

@@ -1,0 +1,51 @@
+// The tokens of a text.
+use ev_term::Op;
+use rule_ast::Cmp;
+use rule_tokens::{Lexeme, lex};
+use std::test::Fail;
+
+fn shown(lexeme: &Lexeme) -> &str {
+    match lexeme {
+        Lexeme::Name(word) => word.as_str(),
+        Lexeme::Var(word) => word.as_str(),
+        Lexeme::Text(text) => text.as_str(),
+        Lexeme::Number(number) if number.value() == 7 => "7",
+        Lexeme::Huge => "2^63",
+        Lexeme::Op(Op::Seq) => "SEQ",
+        Lexeme::Compare(Cmp::Le) => "<=",
+        Lexeme::Stray => "[",
+        Lexeme::End => ".",
+        _ => "?",
+    }
+}
+
+#[test]
+fn tokens_of_texts(rt: HostRuntime) -> Result<(), Fail> {
+    let table = [
+        ("a", 0),
+        ("<=", 2),
+        ("X", 5),
+        ("SEQ", 7),
+        ("\t\"é\\", 10),
+        ("2^63", 21),
+        ("[", 41),
+        ("7", 42),
+        (".", 44),
+    ];
+    let lexed = lex(
+        rt.alloc(),
+        "a <= X SEQ\"\\t\\\"é\\\\\" 9223372036854775808 [7 . $",
+    )?;
+    assert_eq!(rt; lexed.lexemes.len(), table.len());
+    assert_eq!(rt; lexed.places.len(), table.len());
+    let read = lexed.lexemes.iter().zip(lexed.places.iter());
+    for ((lexeme, place), row) in read.zip(table.iter()) {
+        assert_eq!(rt; shown(lexeme), row.0);
+        assert_eq!(rt; *place, row.1);
+    }
+    assert_eq!(rt; lexed.end, 46);
+    assert!(rt; !lexed.whole);
+    let blank = lex(rt.alloc(), " # a")?;
+    assert!(rt; blank.whole && blank.lexemes.is_empty() && blank.end == 4);
+    Ok(())
+}
