@@ -10,9 +10,9 @@ use Rattle.rule_ast.specs.Trees.{PlainStatement}
 use Rattle.etalis_cli.specs.Output.{Setting, start, replies, out_text}
 use Rattle.etalis_cli.specs.Outcome.{Served, Ends}
 use Rattle.etalis_cli.specs.Words.{PlainJob}
-use Rattle.etalis_cli.specs.Rules.{Accepted, IsRefused, HasNone}
+use Rattle.etalis_cli.specs.Rules.{Accepted, IsAccepted, IsRefused, HasNone}
 use Rattle.etalis_cli.specs.declared.refusals.Refusal.{Refusal}
-use Rattle.etalis_cli.specs.Run.{PartFor, OnRules, file_of, late_of, status_of, IsServeCause, IsComplete}
+use Rattle.etalis_cli.specs.Run.{PartFor, OnRules, file_of, late_of, cause_of, status_of, IsServeCause, IsComplete}
 use Rattle.etalis_cli.specs.declared.serving.ServeFault.{ServeFault}
 use Rattle.etalis_cli.specs.declared.serving.ServeFault.TheVariants as fault
 use Rattle.etalis_cli.specs.declared.status.Status.{Status}
@@ -89,15 +89,16 @@ any_rules : (file : Option (List ℕ)) (late : Option ℕ) (P : Setting → Type
 any_rules None late P p = tt
 any_rules (Some f) late P p = λ rs accepted. p (record { rules = rs; late = late })
 
--- what holds of the rules that were read
-pub on_read : (asked : Option PlainJob) (job : PlainJob) (holds : List ℕ → Option (List ℕ)) (rs : List PlainStatement) (P : Setting → Type 0) → asked ≡ Some job
-    → IfSome (holds job.rules) (λ f. Accepted f rs) → P (record { rules = rs; late = job.late }) → OnRules (file_of asked holds) (late_of asked) P
-on_read asked job holds rs P e accepted p = subst (λ o. OnRules (file_of o holds) (late_of o) P) (sym e) (on_rules (holds job.rules) job.late rs P accepted p)
+-- what holds of the rules that were read, under the job's name
+pub on_read : (asked : Option PlainJob) (job : PlainJob) (name : List ℕ) (holds : List ℕ → Option (List ℕ)) (rs : List PlainStatement) (P : Setting → Type 0) → asked ≡ Some job → name ≡ job.rules
+    → IfSome (holds name) (λ f. Accepted f rs) → P (record { rules = rs; late = job.late }) → OnRules (file_of asked holds) (late_of asked) P
+on_read asked job name holds rs P e same accepted p =
+    subst (λ o. OnRules (file_of o holds) (late_of o) P) (sym e) (on_rules (holds job.rules) job.late rs P (subst (λ n. IfSome (holds n) (λ f. Accepted f rs)) same accepted) p)
 
-pub long_on_read : (asked : Option PlainJob) (job : PlainJob) (holds : List ℕ → Option (List ℕ)) (rs : List PlainStatement) (Q : Type 0) (P : Setting → Type 0) → asked ≡ Some job
-    → IfSome (holds job.rules) (λ f. Accepted f rs) → Q ⊎ P (record { rules = rs; late = job.late }) → Q ⊎ OnRules (file_of asked holds) (late_of asked) P
-long_on_read asked job holds rs Q P e accepted (inl q) = inl q
-long_on_read asked job holds rs Q P e accepted (inr p) = inr (on_read asked job holds rs P e accepted p)
+pub long_on_read : (asked : Option PlainJob) (job : PlainJob) (name : List ℕ) (holds : List ℕ → Option (List ℕ)) (rs : List PlainStatement) (Q : Type 0) (P : Setting → Type 0) → asked ≡ Some job → name ≡ job.rules
+    → IfSome (holds name) (λ f. Accepted f rs) → Q ⊎ P (record { rules = rs; late = job.late }) → Q ⊎ OnRules (file_of asked holds) (late_of asked) P
+long_on_read asked job name holds rs Q P e same accepted (inl q) = inl q
+long_on_read asked job name holds rs Q P e same accepted (inr p) = inr (on_read asked job name holds rs P e same accepted p)
 
 -- nothing was taken, and nothing went out
 none_sent : (w : Setting) (left got : Option (List ℕ)) → PartFor w left left got got
@@ -149,26 +150,40 @@ long_cause TooLong e = refl
 
 -- ---- completeness
 
+neither : {A B : Type 0} → ¬ A → ¬ B → A ⊎ B → ⊥
+neither a b (inl p) = a p
+neither a b (inr p) = b p
+
+-- of a file that is accepted, with few bytes and no count that rose
+finished : (s t : Status) (f bytes : List ℕ) (shelf input out : Type 0) → s ≡ t → IsAccepted f → length bytes < 2 ^ 60 → ¬ shelf → ¬ input → ¬ out
+    → (s ≡ status.Usage → ⊥) → (s ≡ status.RulesRefused → HasNone f) → (s ≡ status.ReadFault → shelf ⊎ input) → (s ≡ status.WriteFault → out) → (s ≡ status.TooLong → 2 ^ 60 ≤ length bytes)
+    → (s ≡ status.Done) ⊎ (s ≡ status.Memory)
+finished s status.Done f bytes shelf input out e accepted few no_shelf no_input no_out usage refused read write long = inl e
+finished s status.Usage f bytes shelf input out e accepted few no_shelf no_input no_out usage refused read write long = absurd (usage e)
+finished s status.RulesRefused f bytes shelf input out e accepted few no_shelf no_input no_out usage refused read write long = absurd (refused e accepted.0 accepted.1)
+finished s status.ReadFault f bytes shelf input out e accepted few no_shelf no_input no_out usage refused read write long = absurd (neither no_shelf no_input (read e))
+finished s status.WriteFault f bytes shelf input out e accepted few no_shelf no_input no_out usage refused read write long = absurd (no_out (write e))
+finished s status.Memory f bytes shelf input out e accepted few no_shelf no_input no_out usage refused read write long = inr e
+finished s status.TooLong f bytes shelf input out e accepted few no_shelf no_input no_out usage refused read write long = absurd (let l = long e in omega (arith, l, few))
+
+told : (s : Status) (file left : Option (List ℕ)) (shelf input out : Type 0) → (s ≡ status.Usage → file ≡ None) → (s ≡ status.RulesRefused → IfSome file HasNone) → (s ≡ status.ReadFault → shelf ⊎ input) → (s ≡ status.WriteFault → out)
+    → (s ≡ status.TooLong → IfSome left (λ bytes. 2 ^ 60 ≤ length bytes)) → IsComplete s file left shelf input out
+told s None left shelf input out usage refused read write long = tt
+told s (Some f) None shelf input out usage refused read write long = λ accepted. tt
+told s (Some f) (Some bytes) shelf input out usage refused read write long =
+    λ accepted few no_shelf no_input no_out. finished s s f bytes shelf input out refl accepted few no_shelf no_input no_out (λ e. let n = usage e in cc) refused read write long
+
+no_file : (asked : Option PlainJob) (holds : List ℕ → Option (List ℕ)) → asked ≡ None → file_of asked holds ≡ None
+no_file asked holds e = ap (λ o. file_of o holds) e
+
 pub complete : (s : Status) (asked : Option PlainJob) (holds : List ℕ → Option (List ℕ)) (left : Option (List ℕ)) (shelf input out : Type 0)
     → (s ≡ status.Usage → asked ≡ None) → (s ≡ status.RulesRefused → IfSome (file_of asked holds) HasNone) → (s ≡ status.ReadFault → shelf ⊎ input) → (s ≡ status.WriteFault → out)
     → (s ≡ status.TooLong → IfSome left (λ bytes. 2 ^ 60 ≤ length bytes)) → IsComplete s (file_of asked holds) left shelf input out
-complete s None holds left shelf input out usage refused read write long = tt
-complete s (Some job) holds left shelf input out usage refused read write long = at (holds job.rules) refused left long
-  where
-    at : (file : Option (List ℕ)) → (s ≡ status.RulesRefused → IfSome file HasNone) → (left : Option (List ℕ)) → (s ≡ status.TooLong → IfSome left (λ bytes. 2 ^ 60 ≤ length bytes)) → IsComplete s file left shelf input out
-    at None refused left long = tt
-    at (Some f) refused None long = λ accepted. tt
-    at (Some f) refused (Some bytes) long = λ accepted few no_shelf no_input no_out. by s refl
-      where
-        by : (t : Status) → s ≡ t → (s ≡ status.Done) ⊎ (s ≡ status.Memory)
-        by status.Done e = inl e
-        by status.Usage e = absurd (let u = usage e in cc)
-        by status.RulesRefused e = absurd (refused e accepted.0 accepted.1)
-        by status.ReadFault e = absurd (neither (read e))
-          where
-            neither : shelf ⊎ input → ⊥
-            neither (inl p) = no_shelf p
-            neither (inr p) = no_input p
-        by status.WriteFault e = absurd (no_out (write e))
-        by status.Memory e = inr e
-        by status.TooLong e = absurd (let l = long e in omega (arith, l, few))
+complete s asked holds left shelf input out usage refused read write long = told s (file_of asked holds) left shelf input out (λ e. no_file asked holds (usage e)) refused read write long
+
+pub long_served : (r : Result (Unit {0}) ServeFault) → cause_of r ≡ TooLong → r ≡ Err fault.TooLong
+long_served (Ok x) e = absurd (let f = e in cc)
+long_served (Err fault.Read) e = absurd (let f = e in cc)
+long_served (Err fault.Write) e = absurd (let f = e in cc)
+long_served (Err fault.Memory) e = absurd (let f = e in cc)
+long_served (Err fault.TooLong) e = refl

@@ -1,5 +1,5 @@
 // The top call.
-ghost use Rattle.std.specs.Prelude.{◌≡◌, ◌^◌, ◌≤◌, ◌↔◌, ◌⊎◌, ℕ, List, Some, None, true, IfSome, IfOk, OnOk, IfErr, IsErrOf, MatchOption, length};
+ghost use Rattle.std.specs.Prelude.{◌≡◌, ◌^◌, ◌<◌, ◌≤◌, ◌↔◌, ◌⊎◌, ℕ, List, Some, None, true, IfSome, IfOk, OnOk, IfErr, IsErrOf, MatchOption, length};
 ghost use Rattle.flow_ports.specs.Flow.{Rose, Gives, GivesPart, IsAtEnd};
 ghost use Rattle.ev_term.specs.Lines.{ended};
 ghost use Rattle.rule_ast.specs.Plain.{plain_rules};

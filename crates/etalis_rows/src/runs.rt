@@ -417,7 +417,12 @@ fn refusals_write_nothing_but_their_note(rt: HostRuntime) -> Result<(), Fail> {
         (&["run", "r", "s"], AB, Status::Usage, usage),
         (&["run", "r", "--late"], AB, Status::Usage, usage),
         (&["run", "r", "--late", "-1"], AB, Status::Usage, usage),
-        (&["run", "r", "--late", "4611686018427387904"], AB, Status::Usage, usage),
+        (
+            &["run", "r", "--late", "4611686018427387904"],
+            AB,
+            Status::Usage,
+            usage,
+        ),
         (&["run", "r", "--later", "1"], AB, Status::Usage, usage),
         (
             words,
