@@ -6,6 +6,3 @@ mod reading;
 
 pub use cutting::{first_lines_are_cut_off, given_lines_are_the_lines};
 pub use reading::{Line, LineReader};
-
-#[cfg(test)]
-mod tests;

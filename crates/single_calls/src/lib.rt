@@ -14,6 +14,10 @@ mod fixtures;
 #[cfg(test)]
 mod parses;
 #[cfg(test)]
+mod reads;
+#[cfg(test)]
+mod replies;
+#[cfg(test)]
 mod slots;
 #[cfg(test)]
 mod terms;
