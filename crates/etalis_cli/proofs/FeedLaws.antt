@@ -1,5 +1,5 @@
 -- Pieces one after another.
-use Rattle.std.proofs.Common.{◌≡◌, ℕ, suc, ◌+◌, ◌≤◌, ◌<◌, Bool, true, false, cond, eqb, eqb-true, List, [], ◌∷◌, ◌++◌, Option, Some, length, take, get_or, refl, sym, ap, ◌∙◌, subst, arith, append-nil, append_assoc, length-append}
+use Rattle.std.proofs.Common.{◌≡◌, ℕ, ◌+◌, ◌≤◌, true, false, cond, eqb, List, [], ◌∷◌, ◌++◌, Option, Some, length, take, refl, sym, ap, ◌∙◌, arith, append-nil, append_assoc, length-append}
 use Rattle.std.specs.Io.KnownBytes.{append_known}
 use Rattle.flow_ports.specs.Flow.{Gives, GivesPart}
 use Rattle.flow_ports.proofs.FlowLemmas.{append_known-nil, gives_more}
@@ -11,7 +11,7 @@ use Rattle.line_reader.proofs.CutLaws.{ended-line, rest-line, ended-open, rest-o
 use Rattle.pattern_meaning.specs.Replies.{State}
 use Rattle.etalis_cli.specs.Output.{after, after_line, reply_to, replies}
 use Rattle.etalis_cli.specs.StandsFor.{StandsFor}
-use Rattle.etalis_cli.specs.Feeds.{Kept, Feeds, Between, FedTo, FeedsPart}
+use Rattle.etalis_cli.specs.Feeds.{Kept, Feeds, FedTo, FeedsPart}
 use Rattle.etalis_cli.specs.declared.session.Session.{Session}
 
 -- ---- states and replies, one list of lines after another

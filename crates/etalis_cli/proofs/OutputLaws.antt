@@ -4,7 +4,7 @@ use Rattle.std.specs.List.{flat_map}
 use Rattle.ev_term.specs.Lines.{lines_of}
 use Rattle.ev_term.specs.Presence.{present}
 use Rattle.pattern_meaning.specs.Standing.{standing}
-use Rattle.pattern_meaning.specs.Replies.{State, after_said, left_of, replies_to, reply_to_said, reply_text, end_text}
+use Rattle.pattern_meaning.specs.Replies.{State, left_of, replies_to, reply_to_said, reply_text, end_text}
 use Rattle.pattern_meaning.specs.Left.{left_is_standing}
 use Rattle.event_reader.specs.Machine.{heard}
 use Rattle.etalis_cli.specs.Output.{Setting, start, after, after_line, out_text, replies_said, after_said_all}

@@ -1,9 +1,9 @@
 -- The reply to a line, by what it says and how that is judged.
-use Rattle.std.proofs.Common.{◌≡◌, ℕ, ◌<◌, ◌^◌, Bool, true, false, Option, Some, None, List, [], ◌∷◌, ◌++◌, length, map, refl, sym, ap, ◌∙◌, arith, append_assoc, append-nil}
+use Rattle.std.proofs.Common.{◌≡◌, ℕ, ◌<◌, ◌^◌, true, false, Option, Some, None, List, [], ◌∷◌, ◌++◌, length, map, refl, sym, ap, ◌∙◌, arith, append_assoc}
 use Rattle.std.specs.Prelude.{OnOk, Result, Ok, Err}
 use Rattle.std.specs.List.{flat_map}
 use Rattle.std.proofs.lemmas.List.Concat.{flat_map-append}
-use Rattle.ev_term.specs.Presence.{copies, judge, Said, Says, Fails, Verdict, Taken, Refused, verdict, verdict_of, after_verdict}
+use Rattle.ev_term.specs.Presence.{copies, judge, Says, Fails, Verdict, Taken, Refused, verdict, verdict_of, after_verdict}
 use Rattle.ev_term.specs.declared.inputs.Input.{Input}
 use Rattle.ev_term.specs.declared.inputs.Input.TheVariants.{Add, Take, Advance, Nothing}
 use Rattle.ev_term.specs.declared.inputs.Judgement.{Judgement}
@@ -12,7 +12,7 @@ use Rattle.ev_term.specs.declared.inputs.Refusal.{Refusal}
 use Rattle.ev_term.specs.declared.inputs.Refusal.TheVariants.{Syntax}
 use Rattle.ev_term.specs.declared.events.Detection.{Detection}
 use Rattle.rule_ast.specs.Trees.{PlainStatement}
-use Rattle.pattern_meaning.specs.Replies.{Change, change_by, Changing, Silent, reply, reply_to_input, reply_text, refusal_text, change_text, change_texts, both_texts, ok_text}
+use Rattle.pattern_meaning.specs.Replies.{Change, change_by, reply, reply_to_input, reply_text, refusal_text, change_text, change_texts, both_texts, ok_text}
 use Rattle.revision.specs.Told.{PlainChanged, signed}
 use Rattle.revision.specs.declared.changes.Sign.TheVariants.{Plus, Minus}
 use Rattle.detect_writer.specs.Signs.{sign_byte}

@@ -1,5 +1,5 @@
 -- What is refused, and what has no reply.
-use Rattle.std.specs.Prelude.{◌≡◌, Bool, true, false, Option, Some, None}
+use Rattle.std.specs.Prelude.{Bool, true, false, Option, Some, None}
 use Rattle.ev_term.specs.declared.inputs.Input.{Input}
 use Rattle.ev_term.specs.declared.inputs.Input.TheVariants.{Add, Take, Advance, Nothing}
 use Rattle.ev_term.specs.declared.inputs.Judgement.{Judgement}

@@ -1,7 +1,5 @@
 -- What the top call says.
-use Rattle.std.specs.Prelude.{◌≡◌, ℕ, ◌<◌, ◌^◌, ◌-◌, ◌⊎◌, Bool, true, not, ◌&&◌, ◌==◌, if◌then◌else◌, List, [], ◌∷◌, Option, Some, None, Result, Ok, Err, IfSome, ◌≤◌, String, string_bytes, length, take, codes, ⊤}
-use Rattle.std.specs.Str.{bytes_eq}
-use Rattle.std.specs.declared.alloc.Global.{Global}
+use Rattle.std.specs.Prelude.{◌≡◌, ℕ, ◌<◌, ◌^◌, ◌-◌, ◌⊎◌, Bool, true, List, [], Option, Some, None, Result, Ok, Err, IfSome, ◌≤◌, length, take, codes, ⊤}
 use Rattle.flow_ports.specs.Flow.{Gives, GivesPart}
 use Rattle.ev_term.specs.Lines.{ended}
 use Rattle.rule_ast.specs.Trees.{PlainStatement}

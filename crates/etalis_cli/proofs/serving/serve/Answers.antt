@@ -1,6 +1,5 @@
 use Rattle.std.proofs.Common.{rules, arith, ◌≤◌, ◌<◌, ◌^◌, ◌++◌, take, length, inl}
 use Rattle.std.proofs.lemmas.List.{length-take, length-take-le, length-append}
-use Rattle.etalis_cli.specs.StandsFor.{setting_of}
 use Rattle.etalis_cli.proofs.ServeLaws.{reached_more, reached_count, served_end, served_long, reached_part, reached_takes}
 use Rattle.etalis_cli.proofs.serving.serve.Goals as goal
 
