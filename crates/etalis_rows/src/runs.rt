@@ -1,5 +1,5 @@
 // Whole runs: what is written, and the status, for an input in pieces and with calls that fail.
-use etalis_cli::{Status, run};
+use etalis_cli::{Mode, Status, run, run_words};
 use flow_ports::{MemShelf, MemSink, MemSource};
 use std::alloc::{AllocError, Global};
 use std::test::Fail;
@@ -511,4 +511,18 @@ fn failing_notes_change_no_status(rt: HostRuntime) -> Result<(), Fail> {
     assert_eq!(rt; ran.status, Status::Usage);
     assert_eq!(rt; ran.notes.bytes(), b"".as_slice());
     Ok(())
+}
+
+#[test]
+fn words_give_a_job(rt: HostRuntime) -> Result<(), Fail> {
+    let words = list(rt.alloc(), &["run", "x"])?;
+    match run_words(rt.alloc(), &words) {
+        Ok(job) => {
+            assert_eq!(rt; job.mode, Mode::Run);
+            assert_eq!(rt; job.rules.as_str(), "x");
+            assert_eq!(rt; job.late, None);
+            Ok(())
+        }
+        Err(_) => Err(Fail::new("no job")),
+    }
 }

@@ -2,6 +2,7 @@
 use ev_term::Op;
 use rule_ast::{Pattern, Statement};
 use rule_parser::{ParseFault, parse};
+use std::alloc::{AllocError, Global};
 use std::test::Fail;
 
 // What a text gives, as one line: the number of its statements, or its fault.
@@ -43,6 +44,55 @@ fn texts_and_faults(rt: HostRuntime) -> Result<(), Fail> {
         let line = told(&rt, row.0)?;
         assert_eq!(rt; line.as_str(), row.1, "{}", row.0);
     }
+    Ok(())
+}
+
+// A text with a part so many times.
+fn repeated(
+    alloc: Global,
+    front: &str,
+    part: &str,
+    count: usize,
+    back: &str,
+) -> Result<String, AllocError> {
+    let mut text = String::from_str(alloc, front)?;
+    for _ in 0..count {
+        text.push_str(part)?;
+    }
+    text.push_str(back)?;
+    Ok(text)
+}
+
+// A rule with a variable in each of so many atoms.
+fn with_variables(alloc: Global, count: usize) -> Result<String, AllocError> {
+    let mut text = String::from_str(alloc, "h <- a")?;
+    for i in 0..count {
+        let part = format!(in alloc; " AND a(V{i})")?;
+        text.push_str(&part)?;
+    }
+    text.push_str(".")?;
+    Ok(text)
+}
+
+#[test]
+fn each_limit_is_passed_at_its_place(rt: HostRuntime) -> Result<(), Fail> {
+    let table = [
+        ("", "a<-b.", 1024, "", "1024 statements"),
+        ("", "a<-b.", 1025, "", "limit Statements at 5120"),
+        ("h <- a", " SEQ a", 127, ".", "1 statements"),
+        ("h <- a", " SEQ a", 128, ".", "limit Parts at 773"),
+        ("h <- ", "(", 33, "a.", "limit Depth at 37"),
+        ("h <- a(", "f(", 16, "x.", "limit TermDepth at 38"),
+    ];
+    for row in table.iter() {
+        let text = repeated(rt.alloc(), row.0, row.1, row.2, row.3)?;
+        let line = told(&rt, &text)?;
+        assert_eq!(rt; line.as_str(), row.4);
+    }
+    let most = told(&rt, &with_variables(rt.alloc(), 64)?)?;
+    assert_eq!(rt; most.as_str(), "1 statements");
+    let over = told(&rt, &with_variables(rt.alloc(), 65)?)?;
+    assert_eq!(rt; over.as_str(), "limit Variables at 707");
     Ok(())
 }
 
