@@ -22,42 +22,14 @@ use Rattle.ev_term.specs.declared.terms.Term.TheVariants as made
 use Rattle.ev_term.specs.declared.terms.Pat.{Pat, roll-Pat, out-roll-Pat}
 use Rattle.ev_term.specs.declared.terms.Pat.TheOpen.{Pat-F}
 use Rattle.ev_term.specs.declared.terms.Pat.TheOpen.Pat-F.{Var, Any, Num, Sym, Text, Comp}
-use Rattle.ev_term.specs.declared.terms.Pat.TheFolds.{map-Pat, ind-Pat}
+use Rattle.ev_term.specs.declared.terms.Pat.TheFolds.{map-Pat}
 use Rattle.ev_term.specs.declared.atoms.Atom.{Atom}
 use Rattle.ev_term.specs.declared.atoms.PatAtom.{PatAtom}
+use Rattle.ev_term.proofs.Layers.{Each, args_of, by_layers}
 use Rattle.ev_bind.specs.Bindings.{Pair, Pairs, pair_cmp, alike, single, union_of, IsBinding, value_at, exact_pairs, all_has, has_all, union_same, union_of-itself, IsBinding-canon}
 use Rattle.ev_bind.specs.Matching.{with_pairs, pairs_of_all, number_pairs, symbol_pairs, text_pairs, compound_pairs, pairs_step, pairs_of, pairs_at, match_of}
 use Rattle.ev_bind.specs.Fits.{same, is_value, all_fit, is_compound, fits_step, fits, fits_at, occurs_step, occurs, occurs_at, Matches}
 use Rattle.ev_bind.proofs.Adding.{tie, same_Bool, climbs, climbs_of}
-
--- ---- a fact of arguments of rules, from that of a layer whose arguments have it
-
-abbrev Each : (Pat → Type 0) → List Pat → Type 0
-Each P [] = Unit {0}
-Each P (x ∷ xs) = P x × Each P xs
-
-abbrev args_of : Pat-F Pat → List Pat
-args_of (Var slot) = []
-args_of Any = []
-args_of (Num n) = []
-args_of (Sym s) = []
-args_of (Text s) = []
-args_of (Comp f ps) = ps
-
-by_layers : (P : Pat → Type 0) → ((a : Pat-F Pat) → Each P (args_of a) → P (roll-Pat a)) → (p : Pat) → P p
-by_layers P h = ind-Pat P (λ x y is. subst (λ z. P (roll-Pat z)) is (at y))
-  where
-    firsts : (es : List ((p : Pat) × P p)) → Each P (map (λ e. e.0) es)
-    firsts [] = tt
-    firsts (e ∷ es) = (e.1, firsts es)
-
-    at : (y : Pat-F ((p : Pat) × P p)) → P (roll-Pat (map-Pat ((p : Pat) × P p) Pat (λ e. e.0) y))
-    at (Var slot) = h (Var slot) tt
-    at Any = h Any tt
-    at (Num n) = h (Num n) tt
-    at (Sym s) = h (Sym s) tt
-    at (Text s) = h (Text s) tt
-    at (Comp f es) = h (Comp f (map (λ e. e.0) es)) (firsts es)
 
 -- ---- values and pairs
 

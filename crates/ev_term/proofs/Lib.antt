@@ -1,3 +1,4 @@
 pub mod Commas
 mod Fronts
+pub mod Layers
 pub mod SlotSets

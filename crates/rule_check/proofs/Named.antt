@@ -1,5 +1,5 @@
 -- The variables of shaped rules have names, and so do those that stand where they may not.
-use Rattle.std.proofs.Common.{◌≡◌, ℕ, ◌<◌, Bool, true, false, not, ◌||◌, ◌&&◌, cond, nat_lt, nat_le, Option, Some, List, [], ◌∷◌, ◌++◌, length, map, refl, ap, sym, subst, ◌∙◌}
+use Rattle.std.proofs.Common.{◌≡◌, ℕ, ◌<◌, Bool, true, false, not, ◌||◌, ◌&&◌, cond, nat_lt, nat_le, Option, Some, List, [], ◌∷◌, ◌++◌, length, map, refl, ap, sym, ◌∙◌}
 use Rattle.std.specs.List.{list_all, flat_map, filter}
 use Rattle.std.proofs.lemmas.Bool.{and_parts, true≢false}
 use Rattle.std.proofs.lemmas.Bool.Decides.{Decides-ltb}
@@ -7,8 +7,9 @@ use Rattle.std.proofs.lemmas.List.Folds.{list_all-append}
 use Rattle.ev_term.specs.declared.terms.Pat.{Pat, out-Pat, roll-Pat, out-roll-Pat}
 use Rattle.ev_term.specs.declared.terms.Pat.TheOpen.{Pat-F}
 use Rattle.ev_term.specs.declared.terms.Pat.TheOpen.Pat-F.{Var, Any, Num, Sym, Text, Comp}
-use Rattle.ev_term.specs.declared.terms.Pat.TheFolds.{fold_out-Pat, map-Pat, ind-Pat}
+use Rattle.ev_term.specs.declared.terms.Pat.TheFolds.{fold_out-Pat, map-Pat}
 use Rattle.ev_term.specs.declared.atoms.PatAtom.{PatAtom}
+use Rattle.ev_term.proofs.Layers.{Each, args_of, by_layers}
 use Rattle.rule_ast.specs.Trees.{PlainCond, Value, Calculate, Compare, AndAlso, OrElse, Negate, PlainPattern, Atom, Both, Either, Where, Exact, Within, Not, PlainRule}
 use Rattle.rule_ast.specs.Shaped.{parts_pass, passes, is_argument, is_variable, is_ground, is_head_argument, is_shaped_cond, is_shaped_atom, is_shaped_pattern, is_shaped_head, is_shaped_rule, names_differ, is_length}
 use Rattle.rule_ast.specs.Vars.{slots_of, slots_step, slots_at, atom_vars, vars, is_in}
@@ -38,33 +39,6 @@ holds_none f [] h = refl
 holds_none f (x ∷ xs) h = absurd (true≢false (sym h))
 
 -- ---- arguments
-
-abbrev Each : (Pat → Type 0) → List Pat → Type 0
-Each P [] = Unit {0}
-Each P (x ∷ xs) = P x × Each P xs
-
-abbrev args_of : Pat-F Pat → List Pat
-args_of (Var slot) = []
-args_of Any = []
-args_of (Num n) = []
-args_of (Sym s) = []
-args_of (Text s) = []
-args_of (Comp f ps) = ps
-
-by_layers : (P : Pat → Type 0) → ((a : Pat-F Pat) → Each P (args_of a) → P (roll-Pat a)) → (p : Pat) → P p
-by_layers P h = ind-Pat P (λ x y is. subst (λ z. P (roll-Pat z)) is (at y))
-  where
-    firsts : (es : List ((p : Pat) × P p)) → Each P (map (λ e. e.0) es)
-    firsts [] = tt
-    firsts (e ∷ es) = (e.1, firsts es)
-
-    at : (y : Pat-F ((p : Pat) × P p)) → P (roll-Pat (map-Pat ((p : Pat) × P p) Pat (λ e. e.0) y))
-    at (Var slot) = h (Var slot) tt
-    at Any = h Any tt
-    at (Num n) = h (Num n) tt
-    at (Sym s) = h (Sym s) tt
-    at (Text s) = h (Text s) tt
-    at (Comp f es) = h (Comp f (map (λ e. e.0) es)) (firsts es)
 
 module _ (f : ℕ → Bool) (any : Bool) where
   passes_at : (p : Pat) {x : Pat-F Pat} → out-Pat p ≡ x → passes f any p ≡ parts_pass f any (map-Pat Pat Bool (passes f any) x)

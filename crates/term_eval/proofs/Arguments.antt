@@ -1,5 +1,5 @@
 -- An argument whose variables are bound is one term.
-use Rattle.std.proofs.Common.{ℕ, ◌≡◌, ◌↔◌, refl, ap, sym, ◌∙◌, subst, Bool, true, false, ◌&&◌, Option, Some, None, List, [], ◌∷◌, map}
+use Rattle.std.proofs.Common.{ℕ, ◌≡◌, ◌↔◌, refl, ap, sym, ◌∙◌, Bool, true, false, ◌&&◌, Option, Some, None, List, [], ◌∷◌, map}
 use Rattle.std.specs.Prelude.{is_some, unwrap_or, pos}
 use Rattle.std.specs.List.{list_all}
 use Rattle.std.specs.Ordering.{is_eq}
@@ -13,7 +13,8 @@ use Rattle.ev_term.specs.declared.terms.Term.TheVariants as made
 use Rattle.ev_term.specs.declared.terms.Pat.{Pat, out-Pat, roll-Pat, out-roll-Pat}
 use Rattle.ev_term.specs.declared.terms.Pat.TheOpen.{Pat-F}
 use Rattle.ev_term.specs.declared.terms.Pat.TheOpen.Pat-F.{Var, Any, Num, Sym, Text, Comp}
-use Rattle.ev_term.specs.declared.terms.Pat.TheFolds.{map-Pat, ind-Pat, fold_out-Pat}
+use Rattle.ev_term.specs.declared.terms.Pat.TheFolds.{map-Pat, fold_out-Pat}
+use Rattle.ev_term.proofs.Layers.{Each, args_of, by_layers}
 use Rattle.ev_bind.specs.Bindings.{Pairs, value_at}
 use Rattle.ev_bind.specs.Matching.{instance, instance_step, instance_at}
 use Rattle.ev_bind.specs.Fits.{same, is_value, all_fit, is_compound, fits, fits_step, fits_at}
@@ -21,35 +22,6 @@ use Rattle.rule_ast.specs.Shaped.{passes, parts_pass}
 use Rattle.term_eval.specs.Values.{binds_argument}
 use Rattle.term_eval.specs.Alike.{each_with}
 use Rattle.term_eval.proofs.Equal.{same_decides, same_comps}
-
--- ---- a fact of arguments of rules, from that of a layer whose arguments have it
-
-abbrev Each : (Pat → Type 0) → List Pat → Type 0
-Each P [] = Unit {0}
-Each P (x ∷ xs) = P x × Each P xs
-
-abbrev args_of : Pat-F Pat → List Pat
-args_of (Var slot) = []
-args_of Any = []
-args_of (Num n) = []
-args_of (Sym s) = []
-args_of (Text s) = []
-args_of (Comp f ps) = ps
-
-by_layers : (P : Pat → Type 0) → ((a : Pat-F Pat) → Each P (args_of a) → P (roll-Pat a)) → (p : Pat) → P p
-by_layers P h = ind-Pat P (λ x y is. subst (λ z. P (roll-Pat z)) is (at y))
-  where
-    firsts : (es : List ((p : Pat) × P p)) → Each P (map (λ e. e.0) es)
-    firsts [] = tt
-    firsts (e ∷ es) = (e.1, firsts es)
-
-    at : (y : Pat-F ((p : Pat) × P p)) → P (roll-Pat (map-Pat ((p : Pat) × P p) Pat (λ e. e.0) y))
-    at (Var slot) = h (Var slot) tt
-    at Any = h Any tt
-    at (Num n) = h (Num n) tt
-    at (Sym s) = h (Sym s) tt
-    at (Text s) = h (Text s) tt
-    at (Comp f es) = h (Comp f (map (λ e. e.0) es)) (firsts es)
 
 -- ---- the one term
 
