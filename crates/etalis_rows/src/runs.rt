@@ -2,6 +2,7 @@
 use etalis_cli::{Mode, Status, run, run_words};
 use flow_ports::{MemShelf, MemSink, MemSource};
 use std::alloc::{AllocError, Global};
+use std::process::Abort;
 use std::test::Fail;
 
 const AB: &[u8] = b"ab(X) <- a(X) SEQ b(X).\n";
@@ -65,6 +66,21 @@ fn run_over(
     Ok(Ran { status, out, notes })
 }
 
+// A run that is done writes this, and no note.
+fn writes(
+    rt: &(impl AllocGlobal + Abort),
+    words: &[&str],
+    rules: &[u8],
+    input: &[u8],
+    wanted: &[u8],
+) -> Result<(), Fail> {
+    let ran = run_over(rt.alloc(), words, rules, input, CALM)?;
+    assert_eq!(rt; ran.status, Status::Done);
+    assert_eq!(rt; ran.out.bytes(), wanted);
+    assert_eq!(rt; ran.notes.bytes(), b"".as_slice());
+    Ok(())
+}
+
 #[test]
 fn documented_outputs(rt: HostRuntime) -> Result<(), Fail> {
     let rows: [(&[u8], &[u8], &[u8]); 7] = [
@@ -97,10 +113,7 @@ fn documented_outputs(rt: HostRuntime) -> Result<(), Fail> {
         ),
     ];
     for row in rows {
-        let ran = run_over(rt.alloc(), &["run", "r"], row.0, row.1, CALM)?;
-        assert_eq!(rt; ran.status, Status::Done);
-        assert_eq!(rt; ran.out.bytes(), row.2);
-        assert_eq!(rt; ran.notes.bytes(), b"".as_slice());
+        writes(&rt, &["run", "r"], row.0, row.1, row.2)?;
     }
     Ok(())
 }
@@ -185,10 +198,7 @@ fn lines_are_taken_or_refused(rt: HostRuntime) -> Result<(), Fail> {
         ),
     ];
     for row in rows {
-        let ran = run_over(rt.alloc(), row.0, row.1, row.2, CALM)?;
-        assert_eq!(rt; ran.status, Status::Done);
-        assert_eq!(rt; ran.out.bytes(), row.3);
-        assert_eq!(rt; ran.notes.bytes(), b"".as_slice());
+        writes(&rt, row.0, row.1, row.2, row.3)?;
     }
     Ok(())
 }
@@ -214,13 +224,13 @@ fn bytes_come_one_at_a_time(rt: HostRuntime) -> Result<(), Fail> {
 fn a_line_is_too_long(rt: HostRuntime) -> Result<(), Fail> {
     let mut input = vec![in rt.alloc(); b'#'; 65537]?;
     input.extend_from_slice(b"\n+ 1 a(7)\n")?;
-    let ran = run_over(rt.alloc(), &["run", "r"], AB, &input, CALM)?;
-    assert_eq!(rt; ran.status, Status::Done);
-    assert_eq!(rt;
-        ran.out.bytes(),
-        b"no 1 syntax 65536\nok 2\nend 2\n".as_slice()
-    );
-    Ok(())
+    writes(
+        &rt,
+        &["run", "r"],
+        AB,
+        &input,
+        b"no 1 syntax 65536\nok 2\nend 2\n",
+    )
 }
 
 // Each pattern, over added events.
@@ -260,10 +270,7 @@ fn patterns_find_what_the_table_says(rt: HostRuntime) -> Result<(), Fail> {
         ),
     ];
     for row in rows {
-        let ran = run_over(rt.alloc(), &["run", "r"], row.0, row.1, CALM)?;
-        assert_eq!(rt; ran.status, Status::Done);
-        assert_eq!(rt; ran.out.bytes(), row.2);
-        assert_eq!(rt; ran.notes.bytes(), b"".as_slice());
+        writes(&rt, &["run", "r"], row.0, row.1, row.2)?;
     }
     Ok(())
 }
@@ -294,10 +301,7 @@ fn operators_compare_starts_and_ends(rt: HostRuntime) -> Result<(), Fail> {
         ),
     ];
     for row in rows {
-        let ran = run_over(rt.alloc(), &["run", "r"], row.0, row.1, CALM)?;
-        assert_eq!(rt; ran.status, Status::Done);
-        assert_eq!(rt; ran.out.bytes(), row.2);
-        assert_eq!(rt; ran.notes.bytes(), b"".as_slice());
+        writes(&rt, &["run", "r"], row.0, row.1, row.2)?;
     }
     Ok(())
 }
