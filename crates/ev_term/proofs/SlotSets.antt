@@ -63,3 +63,10 @@ within_from a b f =
 
 pub within_decides : (a b : ℕ) → Decides (bit_and a b == a) (IsWithin a b)
 within_decides a b = (within_to a b, within_from a b)
+
+same_bit : (x y : ℕ) → x < 2 → y < 2 → (x == 1) ≡ (y == 1) → x ≡ y
+same_bit x y h k e = grind (arith, nat_tests)
+
+pub same_members : (a b : ℕ) → ((t : ℕ) → slot_in a t ≡ slot_in b t) → a ≡ b
+unfolding slot_in
+same_members a b same = same_from_bits a b (λ t. same_bit (bit_at a t) (bit_at b t) (bit_at-lt a t) (bit_at-lt b t) (same t))

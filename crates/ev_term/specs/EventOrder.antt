@@ -1,17 +1,21 @@
--- The orders of atoms, spans, events and detections. Only equal ones tie.
-use Rattle.std.specs.Prelude.{◌≡◌}
-use Rattle.std.specs.Ordering.{nat_cmp, on, then_cmp}
+-- The orders of names, atoms, spans, events and detections. Only equal ones tie.
+use Rattle.std.specs.Prelude.{◌≡◌, refl, IsTrue}
+use Rattle.std.specs.Ordering.{nat_cmp, on, then_cmp, is_eq}
 use Rattle.std.specs.declared.cmp.Ordering.{Ordering}
+use Rattle.std.specs.declared.cmp.Ordering.TheVariants.{Less, Equal, Greater}
+use Rattle.std.proofs.lemmas.Bool.{true≢false}
 use Rattle.std.proofs.Common.{ap, sym, ◌∙◌}
 use Rattle.ordered_lists.specs.Canon.{Exact}
-use Rattle.ordered_lists.specs.Orders.{exact_numbers, exact_on, exact_then}
+use Rattle.ordered_lists.specs.Orders.{exact_numbers, exact_texts, exact_on, exact_then}
 use Rattle.ev_term.specs.Spans.{PlainSpan}
-use Rattle.ev_term.specs.Happenings.{PlainEvent}
-use Rattle.ev_term.specs.TermOrder.{term_cmp, exact_terms}
+use Rattle.ev_term.specs.Events.{span_of}
+use Rattle.ev_term.specs.TermOrder.{term_cmp, exact_terms, bytes_cmp}
 use Rattle.ev_term.specs.declared.terms.Term.{Term, out-Term}
 use Rattle.ev_term.specs.declared.terms.Term.TheVariants as made
 use Rattle.ev_term.specs.declared.terms.Term.TheOpen.Term-F.{Comp}
 use Rattle.ev_term.specs.declared.atoms.Atom.{Atom}
+use Rattle.ev_term.specs.declared.atoms.NameArity.{NameArity}
+use Rattle.ev_term.specs.declared.events.Event.{Event}
 use Rattle.ev_term.specs.declared.events.Detection.{Detection}
 
 -- an atom as the compound of its name and its arguments
@@ -26,9 +30,9 @@ atom_cmp = on as_term term_cmp
 abbrev pub span_cmp : PlainSpan → PlainSpan → Ordering
 span_cmp = then_cmp (on (λ s. s.start) nat_cmp) (on (λ s. s.end) nat_cmp)
 
--- by time and atom
-abbrev pub event_cmp : PlainEvent → PlainEvent → Ordering
-event_cmp = then_cmp (on (λ e. e.time) nat_cmp) (on (λ e. e.atom) atom_cmp)
+-- by atom and span
+abbrev pub event_cmp : Event → Event → Ordering
+event_cmp = then_cmp (on (λ e. e.atom) atom_cmp) (on span_of span_cmp)
 
 -- by atom and span
 abbrev pub detection_cmp : Detection → Detection → Ordering
@@ -48,7 +52,23 @@ pub exact_spans : Exact span_cmp
 exact_spans = exact_then (λ s. s.start) (λ s. s.end) (λ x y p q i. record { start = p i; end = q i }) exact_numbers exact_numbers
 
 pub exact_events : Exact event_cmp
-exact_events = exact_then (λ e. e.time) (λ e. e.atom) (λ x y p q i. record { time = p i; atom = q i }) exact_numbers exact_atoms
+exact_events = exact_then (λ e. e.atom) span_of (λ x y p q i. record { atom = p i; span = q i }) exact_atoms exact_spans
 
 pub exact_detections : Exact detection_cmp
 exact_detections = exact_then (λ d. d.atom) (λ d. d.span) (λ x y p q i. record { atom = p i; span = q i }) exact_atoms exact_spans
+
+-- by name, and then by number of arguments
+abbrev pub name_cmp : NameArity → NameArity → Ordering
+name_cmp = then_cmp (on (λ n. n.name) bytes_cmp) (on (λ n. n.arity) nat_cmp)
+
+pub exact_names : Exact name_cmp
+exact_names = exact_then (λ n. n.name) (λ n. n.arity) (λ x y p q i. record { name = p i; arity = q i }) exact_texts exact_numbers
+
+eq_from : (o : Ordering) → IsTrue (is_eq o) → o ≡ Equal
+eq_from Less e = absurd (true≢false (sym e))
+eq_from Equal e = refl
+eq_from Greater e = absurd (true≢false (sym e))
+
+-- names that tie are the same
+pub same_names : (x y : NameArity) → IsTrue (is_eq (name_cmp x y)) → x ≡ y
+same_names x y h = exact_names.same x y (eq_from (name_cmp x y) h)

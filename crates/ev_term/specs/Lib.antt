@@ -1,6 +1,6 @@
 pub mod formers
-pub mod Happenings
 pub mod Spans
+pub mod Events
 pub mod TermOrder
 pub mod EventOrder
 pub mod Text

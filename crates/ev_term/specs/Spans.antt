@@ -5,3 +5,7 @@ use Rattle.std.specs.Prelude.{ℕ}
 pub record PlainSpan : Type 0 where
   pub start : ℕ
   pub end : ℕ
+
+-- the span of one time
+abbrev pub instant : ℕ → PlainSpan
+instant time = record { start = time; end = time }

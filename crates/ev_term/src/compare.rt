@@ -1,18 +1,23 @@
-// The orders of terms, atoms, events and detections.
+// The orders of names, terms, atoms, events and detections; names as keys of tables.
 ghost use Rattle.std.specs.Prelude.{◌≡◌, length};
 ghost use Rattle.std.specs.Cmp.Lexicographic.{slice_cmp};
 ghost use Rattle.std.specs.Cmp.{partial_equiv_from_equiv, partial_order_from_agreeing_total};
 ghost use Rattle.std.specs.Ordering.{eq_by_cmp, as_partial_cmp, ordering_then};
-ghost use Rattle.std.proofs.Common.{refl};
+ghost use Rattle.std.specs.Cmp.Lexicographic.{nat_list_eq_equiv};
+ghost use Rattle.std.specs.Cmp.Rules.{comparing, hashing};
+ghost use Rattle.std.specs.Hash as fed;
+ghost use Rattle.std.specs.Str.{bytes_eq};
+ghost use Rattle.std.proofs.Common.{refl, rules};
 ghost use Rattle.std.proofs.lemmas.Cmp.{eq_by_cmp_equiv};
 ghost use Rattle.ev_term.specs.TermOrder.{term_cmp, bytes_cmp, args_cmp, rank};
-ghost use Rattle.ev_term.specs.EventOrder.{atom_cmp, span_cmp, event_cmp, detection_cmp, exact_events, exact_detections};
+ghost use Rattle.ev_term.specs.EventOrder.{name_cmp, atom_cmp, span_cmp, event_cmp, detection_cmp, exact_names, exact_events, exact_detections};
 
-use crate::atoms::Atom;
+use crate::atoms::{Atom, NameArity};
 use crate::events::{Detection, Event, Span};
 use crate::names::Name;
 use crate::terms::Term;
 use std::cmp::Ordering;
+use std::hash::{Hash, Hasher};
 
 fn rank(t: &Term) -> u8
     ensures { result ≡ rank t.now }
@@ -83,13 +88,13 @@ pub fn cmp_atoms(a: &Atom, b: &Atom) -> Ordering
     }
 }
 
-/// By time, and then by atom.
+/// By atom, start and end.
 pub fn cmp_events(a: &Event, b: &Event) -> Ordering
     ensures { result ≡ event_cmp a.now b.now }
 {
-    match a.time().cmp(&b.time()) {
+    match cmp_atoms(&a.atom, &b.atom) {
         Ordering::Less => Ordering::Less,
-        Ordering::Equal => cmp_atoms(a.atom(), b.atom()),
+        Ordering::Equal => cmp_spans(a.span, b.span),
         Ordering::Greater => Ordering::Greater,
     }
 }
@@ -185,5 +190,89 @@ impl Ord for Detection {
 
     fn cmp(&self, other: &Detection) -> Ordering {
         cmp_detections(self, other)
+    }
+}
+
+/// By name and number of arguments.
+pub fn cmp_name_arities(a: &NameArity, b: &NameArity) -> Ordering
+    ensures { result ≡ name_cmp a.now b.now }
+{
+    cmp_names(&a.name, &b.name).then(a.arity.cmp(&b.arity))
+}
+
+impl PartialEq for NameArity {
+    ghost eq = { eq_by_cmp name_cmp };
+
+    ghost laws = { partial_equiv_from_equiv (eq_by_cmp_equiv exact_names.total) };
+
+    fn eq(&self, other: &NameArity) -> bool {
+        cmp_name_arities(self, other).is_eq()
+    }
+}
+
+impl Eq for NameArity {
+    ghost laws = { eq_by_cmp_equiv exact_names.total };
+}
+
+impl PartialOrd for NameArity {
+    ghost partial_cmp = { as_partial_cmp name_cmp };
+
+    ghost laws = { partial_order_from_agreeing_total name_cmp exact_names.total (λ _ _. refl) (λ _ _. refl) };
+
+    fn partial_cmp(&self, other: &NameArity) -> Option<Ordering> {
+        Some(cmp_name_arities(self, other))
+    }
+}
+
+impl Ord for NameArity {
+    ghost cmp = { name_cmp };
+
+    ghost total = { exact_names.total };
+
+    ghost matches_partial_cmp = { λ _ _. refl };
+
+    ghost matches_eq = { λ _ _. refl };
+
+    fn cmp(&self, other: &NameArity) -> Ordering {
+        cmp_name_arities(self, other)
+    }
+}
+
+impl Hash for NameArity {
+    ghost use Rattle.std.specs.Prelude.{◌++◌};
+    ghost use Rattle.std.proofs.Common.{ap};
+    ghost use Rattle.ev_term.specs.EventOrder.{same_names};
+
+    ghost hash_input = { λ n. fed.str n.name ++ fed.u8 n.arity };
+
+    ghost respects_eq = { λ x y h. ap (λ n. fed.str n.name ++ fed.u8 n.arity) (same_names x y h) };
+
+    fn hash<H: Hasher>(&self, state: &mut H) {
+        self.name.hash(state);
+        state.write_u8(self.arity);
+    }
+}
+
+impl PartialEq for Name {
+    ghost eq = { bytes_eq };
+
+    ghost laws = { Prim.search (comparing, rules) };
+
+    fn eq(&self, other: &Name) -> bool {
+        self.as_str() == other.as_str()
+    }
+}
+
+impl Eq for Name {
+    ghost laws = { nat_list_eq_equiv };
+}
+
+impl Hash for Name {
+    ghost hash_input = { fed.str };
+
+    ghost respects_eq = { Prim.search (hashing, rules) };
+
+    fn hash<H: Hasher>(&self, state: &mut H) {
+        self.as_str().hash(state);
     }
 }

@@ -1,64 +1,10 @@
 // Events, spans and detections.
 ghost use Rattle.std.specs.Prelude.{◌≡◌, ◌<◌, ◌≤◌, ◌^◌, IfOk};
-ghost use Rattle.ev_term.specs.Spans.{PlainSpan};
+ghost use Rattle.ev_term.specs.Spans.{PlainSpan, instant};
 
 use crate::atoms::Atom;
 use std::alloc::AllocError;
 use std::marker::Model;
-
-/// An atom that happened at a time, in ticks below 2^62.
-#[derive(Drop)]
-pub struct Event {
-    time: u64,
-    atom: Atom,
-}
-
-impl Model for Event {
-    ghost use Rattle.std.specs.Prelude.{◌<◌, ◌^◌};
-    ghost use Rattle.std.specs.Coded.{codes};
-    ghost use Rattle.ev_term.specs.contracts.terms.Term as term;
-    ghost use Rattle.ev_term.specs.Happenings.{PlainEvent};
-
-    ghost Value = { PlainEvent };
-
-    ghost coded = { Prim.hlevel (codes, term.the_row.coded) };
-
-    ghost view = { λ e. record { time = e.time; atom = e.atom } };
-
-    ghost invariant = { λ e. e.time < 2 ^ 62 };
-}
-
-impl Event {
-    pub fn new(time: u64, atom: Atom) -> Event
-        requires { time < 2 ^ 62 }
-        ensures { result ≡ record { time = time; atom = atom } }
-    {
-        Event { time, atom }
-    }
-
-    pub fn time(&self) -> u64
-        ensures time { result ≡ self.now.time }
-        ensures range { result < 2 ^ 62 }
-    {
-        self.time
-    }
-
-    pub fn atom(&self) -> &Atom
-        ensures { result.now ≡ self.now.atom }
-    {
-        &self.atom
-    }
-
-    /// An equal event that shares its atom.
-    pub fn share(&self) -> Result<Event, AllocError>
-        ensures { IfOk result (λ e. e ≡ self.now) }
-    {
-        Ok(Event {
-            time: self.time,
-            atom: self.atom.share()?,
-        })
-    }
-}
 
 /// A stretch of time from a start to an end, both of which belong to it, in ticks below 2^62.
 #[derive(Clone, Copy)]
@@ -87,6 +33,17 @@ impl Span {
         Span { start, end }
     }
 
+    /// From a time to the same time.
+    pub fn instant(time: u64) -> Span
+        requires { time < 2 ^ 62 }
+        ensures { result ≡ instant time }
+    {
+        Span {
+            start: time,
+            end: time,
+        }
+    }
+
     pub fn start(self) -> u64
         ensures start { result ≡ self.start }
         ensures order { result ≤ self.end }
@@ -101,6 +58,35 @@ impl Span {
         ensures range { result < 2 ^ 62 }
     {
         self.end
+    }
+}
+
+/// An atom that happened on a span: from its start to its end, or at one time. Its time, by which it is early or late, is the end.
+#[derive(Drop)]
+pub struct Event {
+    pub span: Span,
+    pub atom: Atom,
+}
+
+impl Event {
+    ghost use Rattle.ev_term.specs.Events.{time_of};
+
+    /// The end of its span.
+    pub fn time(&self) -> u64
+        ensures time { result ≡ time_of self.now }
+        ensures range { result < 2 ^ 62 }
+    {
+        self.span.end()
+    }
+
+    /// An equal event that shares its atom.
+    pub fn share(&self) -> Result<Event, AllocError>
+        ensures { IfOk result (λ e. e ≡ self.now) }
+    {
+        Ok(Event {
+            span: self.span,
+            atom: self.atom.share()?,
+        })
     }
 }
 
