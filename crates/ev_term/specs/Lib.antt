@@ -1,4 +1,5 @@
 pub mod formers
+pub mod Bytes
 pub mod Spans
 pub mod Events
 pub mod TermOrder

@@ -2,22 +2,23 @@
 use Rattle.std.specs.Prelude.{ℕ, ◌≡◌, Bool, true, false, cond, if◌then◌else◌, ◌==◌, List, [], ◌∷◌, ◌++◌}
 use Rattle.std.specs.List.{slice_split, onto_first}
 use Rattle.std.proofs.Common.{refl, ap, sym, ◌∙◌, append_assoc, append-nil}
+use Rattle.ev_term.specs.Bytes.{feed, carriage_return}
 
 -- one carriage return at the end of a line is dropped
 abbrev pub without_cr : List ℕ → List ℕ
 without_cr [] = []
-without_cr (b ∷ []) = if b == 13 then [] else b ∷ []
+without_cr (b ∷ []) = if b == carriage_return then [] else b ∷ []
 without_cr (b ∷ c ∷ bytes) = b ∷ without_cr (c ∷ bytes)
 
 -- the lines that a line feed ends
 abbrev pub ended_from : List ℕ → List ℕ → List (List ℕ)
 ended_from part [] = []
-ended_from part (b ∷ bytes) = if b == 10 then without_cr part ∷ ended_from [] bytes else ended_from (part ++ b ∷ []) bytes
+ended_from part (b ∷ bytes) = if b == feed then without_cr part ∷ ended_from [] bytes else ended_from (part ++ b ∷ []) bytes
 
 -- what stands behind the last line feed
 abbrev pub rest_from : List ℕ → List ℕ → List ℕ
 rest_from part [] = part
-rest_from part (b ∷ bytes) = if b == 10 then rest_from [] bytes else rest_from (part ++ b ∷ []) bytes
+rest_from part (b ∷ bytes) = if b == feed then rest_from [] bytes else rest_from (part ++ b ∷ []) bytes
 
 abbrev pub ended : List ℕ → List (List ℕ)
 ended bytes = ended_from [] bytes
@@ -50,12 +51,12 @@ behind-onto_first part b [] = refl
 behind-onto_first part b (p ∷ ps) = ap (λ l. l ∷ ps) (append_assoc part (b ∷ []) p)
 
 abbrev is_feed : ℕ → Bool
-is_feed b = b == 10
+is_feed b = b == feed
 
 -- a split has a part
 with_first : (part : List ℕ) (bytes : List ℕ) → lines_of_parts (part ∷ slice_split is_feed bytes) ≡ without_cr part ∷ lines_of_parts (slice_split is_feed bytes)
 with_first part [] = refl
-with_first part (b ∷ bytes) = at (b == 10)
+with_first part (b ∷ bytes) = at (b == feed)
   where
     more : (ps : List (List ℕ)) → lines_of_parts (part ∷ onto_first b ps) ≡ without_cr part ∷ lines_of_parts (onto_first b ps)
     more [] = refl
@@ -67,7 +68,7 @@ with_first part (b ∷ bytes) = at (b == 10)
 
 behind_nothing : (bytes : List ℕ) → behind [] (slice_split is_feed bytes) ≡ slice_split is_feed bytes
 behind_nothing [] = refl
-behind_nothing (b ∷ bytes) = at (b == 10)
+behind_nothing (b ∷ bytes) = at (b == feed)
   where
     more : (ps : List (List ℕ)) → behind [] (onto_first b ps) ≡ onto_first b ps
     more [] = refl
@@ -79,7 +80,7 @@ behind_nothing (b ∷ bytes) = at (b == 10)
 
 lines_from : (part bytes : List ℕ) → ended_from part bytes ++ last_line (rest_from part bytes) ≡ lines_of_parts (behind part (slice_split is_feed bytes))
 lines_from part [] = ap last_line (sym (append-nil part))
-lines_from part (b ∷ bytes) = at (b == 10) (lines_from [] bytes) (lines_from (part ++ b ∷ []) bytes)
+lines_from part (b ∷ bytes) = at (b == feed) (lines_from [] bytes) (lines_from (part ++ b ∷ []) bytes)
   where
     at : (t : Bool) → ended_from [] bytes ++ last_line (rest_from [] bytes) ≡ lines_of_parts (behind [] (slice_split is_feed bytes))
         → ended_from (part ++ b ∷ []) bytes ++ last_line (rest_from (part ++ b ∷ []) bytes) ≡ lines_of_parts (behind (part ++ b ∷ []) (slice_split is_feed bytes))
@@ -89,7 +90,7 @@ lines_from part (b ∷ bytes) = at (b == 10) (lines_from [] bytes) (lines_from (
     at false e f = f ∙ ap lines_of_parts (behind-onto_first part b (slice_split is_feed bytes))
 
 -- the lines, by the parts between line feeds
-pub lines_of-parts : (bytes : List ℕ) → lines_of bytes ≡ lines_of_parts (slice_split (λ b. b == 10) bytes)
+pub lines_of-parts : (bytes : List ℕ) → lines_of bytes ≡ lines_of_parts (slice_split (λ b. b == feed) bytes)
 lines_of-parts bytes = lines_from [] bytes ∙ ap lines_of_parts (behind_nothing bytes)
 
 -- ---- one piece behind another
@@ -97,13 +98,13 @@ lines_of-parts bytes = lines_from [] bytes ∙ ap lines_of_parts (behind_nothing
 pub ended_from-append : (p xs ys : List ℕ) → ended_from p (xs ++ ys) ≡ ended_from p xs ++ ended_from (rest_from p xs) ys
 ended_from-append p [] ys = refl
 ended_from-append p (x ∷ xs) ys =
-    elim (x == 10) as (λ t. cond t (without_cr p ∷ ended_from [] (xs ++ ys)) (ended_from (p ++ x ∷ []) (xs ++ ys))
+    elim (x == feed) as (λ t. cond t (without_cr p ∷ ended_from [] (xs ++ ys)) (ended_from (p ++ x ∷ []) (xs ++ ys))
     ≡ cond t (without_cr p ∷ ended_from [] xs) (ended_from (p ++ x ∷ []) xs) ++ ended_from (cond t (rest_from [] xs) (rest_from (p ++ x ∷ []) xs)) ys)
     [ true ↦ ap (λ ls. without_cr p ∷ ls) (ended_from-append [] xs ys) | false ↦ ended_from-append (p ++ x ∷ []) xs ys ]
 
 pub rest_from-append : (p xs ys : List ℕ) → rest_from p (xs ++ ys) ≡ rest_from (rest_from p xs) ys
 rest_from-append p [] ys = refl
 rest_from-append p (x ∷ xs) ys =
-    elim (x == 10) as (λ t. cond t (rest_from [] (xs ++ ys)) (rest_from (p ++ x ∷ []) (xs ++ ys))
+    elim (x == feed) as (λ t. cond t (rest_from [] (xs ++ ys)) (rest_from (p ++ x ∷ []) (xs ++ ys))
     ≡ rest_from (cond t (rest_from [] xs) (rest_from (p ++ x ∷ []) xs)) ys)
     [ true ↦ rest_from-append [] xs ys | false ↦ rest_from-append (p ++ x ∷ []) xs ys ]

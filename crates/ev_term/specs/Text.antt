@@ -3,6 +3,7 @@ use Rattle.std.specs.Prelude.{ℕ, ℤ, ◌≡◌, if◌then◌else◌, ◌==◌
 use Rattle.std.specs.List.{join_with_byte, flat_map}
 use Rattle.std.specs.Fmt.{signed_decimal}
 use Rattle.std.proofs.Common.{ap, ◌∙◌}
+use Rattle.ev_term.specs.Bytes.{tab, feed, quote, open_round, close_round, comma, backslash}
 use Rattle.ev_term.specs.declared.terms.Term.{Term, out-Term}
 use Rattle.ev_term.specs.declared.terms.Term.TheOpen.{Term-F}
 use Rattle.ev_term.specs.declared.terms.Term.TheVariants as made
@@ -12,15 +13,17 @@ use Rattle.ev_term.specs.declared.atoms.Atom.{Atom}
 
 -- a byte of a text, by an escape where it needs one: a quote, a backslash, a line feed or a tab
 abbrev pub escape : ℕ → List ℕ
-escape b = if b == 34 then codes "\\\"" else (if b == 92 then codes "\\\\" else (if b == 10 then codes "\\n" else (if b == 9 then codes "\\t" else b ∷ [])))
+escape b =
+    if b == quote then codes "\\\"" else (if b == backslash then codes "\\\\" else
+    (if b == feed then codes "\\n" else (if b == tab then codes "\\t" else b ∷ [])))
 
 -- a text between quotes
 abbrev pub quoted : List ℕ → List ℕ
-quoted text = 34 ∷ flat_map escape text ++ 34 ∷ []
+quoted text = quote ∷ flat_map escape text ++ quote ∷ []
 
 -- a name and its arguments
 abbrev pub applied : List ℕ → List (List ℕ) → List ℕ
-applied name args = name ++ 40 ∷ join_with_byte 44 args ++ 41 ∷ []
+applied name args = name ++ open_round ∷ join_with_byte comma args ++ close_round ∷ []
 
 abbrev pub text_step : Term-F (List ℕ) → List ℕ
 text_step (Num n) = signed_decimal n

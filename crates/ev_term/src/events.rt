@@ -6,6 +6,9 @@ use crate::atoms::Atom;
 use std::alloc::AllocError;
 use std::marker::Model;
 
+/// Times are below this many ticks, 2^62.
+pub const TIME_LIMIT: u64 = 1 << 62;
+
 /// A stretch of time from a start to an end, both of which belong to it, in ticks below 2^62.
 #[derive(Clone, Copy)]
 pub struct Span {
@@ -14,11 +17,15 @@ pub struct Span {
 }
 
 impl Model for Span {
+    ghost use Rattle.std.specs.Prelude.{◌<◌, ◌≤◌};
+    ghost use Rattle.ev_term.specs.Spans.{PlainSpan};
+    ghost use Rattle.ev_term.specs.declared.events.TheConstants.{TIME_LIMIT};
+
     ghost Value = { PlainSpan };
 
     ghost view = { λ s. record { start = s.start; end = s.end } };
 
-    ghost invariant = { λ s. (s.start ≤ s.end) × (s.end < 2 ^ 62) };
+    ghost invariant = { λ s. (s.start ≤ s.end) × (s.end < TIME_LIMIT) };
 
     ghost inverse = { λ s. record { start = s.start; end = s.end } };
 }
@@ -26,7 +33,7 @@ impl Model for Span {
 impl Span {
     pub fn new(start: u64, end: u64) -> Span
         requires order { start ≤ end }
-        requires range { end < 2 ^ 62 }
+        requires range { end < TIME_LIMIT }
         ensures start { result.start ≡ start }
         ensures end { result.end ≡ end }
     {
@@ -35,7 +42,7 @@ impl Span {
 
     /// From a time to the same time.
     pub fn instant(time: u64) -> Span
-        requires { time < 2 ^ 62 }
+        requires { time < TIME_LIMIT }
         ensures { result ≡ instant time }
     {
         Span {
@@ -47,7 +54,7 @@ impl Span {
     pub fn start(self) -> u64
         ensures start { result ≡ self.start }
         ensures order { result ≤ self.end }
-        ensures range { self.end < 2 ^ 62 }
+        ensures range { self.end < TIME_LIMIT }
     {
         self.start
     }
@@ -55,7 +62,7 @@ impl Span {
     pub fn end(self) -> u64
         ensures end { result ≡ self.end }
         ensures order { self.start ≤ result }
-        ensures range { result < 2 ^ 62 }
+        ensures range { result < TIME_LIMIT }
     {
         self.end
     }
@@ -74,7 +81,7 @@ impl Event {
     /// The end of its span.
     pub fn time(&self) -> u64
         ensures time { result ≡ time_of self.now }
-        ensures range { result < 2 ^ 62 }
+        ensures range { result < TIME_LIMIT }
     {
         self.span.end()
     }

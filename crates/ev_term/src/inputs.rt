@@ -1,6 +1,9 @@
 // Inputs, how they are judged, and why a line is refused.
 use crate::events::Event;
 
+/// The most bytes of a line, without its line feed and one carriage return before that.
+pub const MOST_LINE_BYTES: usize = 65_536;
+
 /// What a line says: a copy of an event comes, a copy is taken back, no event before a time comes any more, nothing, or that a
 /// batch begins or is whole.
 #[derive(Drop)]

@@ -32,6 +32,15 @@ impl Term {
     }
 }
 
+/// The most arguments of an atom or compound.
+pub const MOST_ARGUMENTS: usize = 16;
+
+/// The most terms that stand within one another, the outermost among them.
+pub const MOST_DEPTH: usize = 16;
+
+/// The most variables of a rule, each of which has a slot.
+pub const MOST_SLOTS: usize = 64;
+
 /// The place of a variable among those of its rule, from 0 to 63, which contracts see as the number.
 #[derive(Clone, Copy, PartialEq, Eq, PartialOrd, Ord)]
 pub struct Slot {

@@ -2,6 +2,7 @@
 ghost use Rattle.std.specs.Prelude.{◌≡◌, ◌++◌, ◌∷◌, [], OnOk, OnErr, map};
 ghost use Rattle.std.specs.Io.{StartsWith};
 ghost use Rattle.std.specs.List.{join_with_byte, flat_map};
+ghost use Rattle.ev_term.specs.Bytes.{comma};
 ghost use Rattle.ev_term.specs.Text.{escape, quoted, applied, written, term_text, atom_text};
 
 use crate::atoms::Atom;
@@ -90,7 +91,7 @@ fn push_term(t: &Term, out: &mut Vec<u8>) -> Result<(), AllocError>
 // The texts of arguments, with a comma between each two.
 #[cycle(text)]
 fn push_args(args: &[Term], out: &mut Vec<u8>) -> Result<(), AllocError>
-    ensures ok { OnOk result (out.new.items ≡ out.old.items ++ join_with_byte 44 (map term_text args.now)) }
+    ensures ok { OnOk result (out.new.items ≡ out.old.items ++ join_with_byte comma (map term_text args.now)) }
     ensures err { OnErr result (StartsWith out.new.items out.old.items) }
 {
     if args.is_empty() {
