@@ -9,7 +9,7 @@ use Rattle.rule_parser.specs.Answers.{Holds, Answers, Gives}
 use Rattle.rule_parser.specs.declared.faults.ParseFault.{ParseFault}
 use Rattle.rule_parser.specs.declared.faults.ParseFault.TheVariants as parse
 use Rattle.rule_parser.proofs.Meanings.{one_meaning}
-use Rattle.rule_check.specs.Names.{shown_names}
+use Rattle.rule_ast.specs.Shown.{shown_names}
 use Rattle.rule_check.specs.Verdict.{IsSound, IsRefusal}
 use Rattle.rule_check.specs.declared.faults.CheckFault.{CheckFault}
 use Rattle.rule_check.specs.declared.faults.CheckFault.TheVariants as check

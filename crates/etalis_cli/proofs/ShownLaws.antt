@@ -11,7 +11,7 @@ use Rattle.rule_grammar.specs.Tokens.{items, statement, statements, number_of, t
 use Rattle.rule_grammar.specs.Values.{items_value, statement_value, text_value}
 use Rattle.rule_grammar.proofs.Fronts.{statement_begins}
 use Rattle.rule_parser.specs.Answers.{Holds}
-use Rattle.rule_check.specs.Names.{shown_names}
+use Rattle.rule_ast.specs.Shown.{shown_names}
 
 shown_append : (xs ys : List PlainStatement) → length (shown_names (xs ++ ys)) ≡ length (shown_names xs) + length (shown_names ys)
 shown_append [] ys = omega arith

@@ -2,7 +2,7 @@
 use Rattle.std.proofs.Common.{◌≡◌, ◌+◌, ◌-◌, true, List, [], ◌∷◌, ◌++◌, sym, ap, ◌∙◌, inl, inr, Option, ℕ}
 use Rattle.std.specs.Prelude.{◌⊎◌}
 use Rattle.std.proofs.lemmas.Bool.{true≢false}
-use Rattle.ev_term.specs.Happenings.{PlainEvent}
+use Rattle.ev_term.specs.declared.events.Event.{Event}
 use Rattle.ev_term.specs.Presence.{added, taken, occurrences, copies, judge, IsAccepted}
 use Rattle.ev_term.specs.declared.inputs.Input.{Input}
 use Rattle.ev_term.specs.declared.inputs.Judgement.TheVariants.{Fine}
@@ -21,8 +21,8 @@ fine_for_all engine history input (inr (other, can)) s =
 
 -- what is kept of a history with one input more
 pub keeps_next : (old new : Present) (late : Option ℕ) (history : List Input) (input : Input) → IsAccepted late history → Keeps old history
-    → ((e : PlainEvent) → number_of new e ≡ number_of old e + occurrences e (added input) - occurrences e (taken input)) → Keeps new (history ++ input ∷ [])
+    → ((e : Event) → number_of new e ≡ number_of old e + occurrences e (added input) - occurrences e (taken input)) → Keeps new (history ++ input ∷ [])
 keeps_next old new late history input a k next =
-    let numbers : (e : PlainEvent) → number_of new e ≡ copies (history ++ input ∷ []) e =
+    let numbers : (e : Event) → number_of new e ≡ copies (history ++ input ∷ []) e =
     λ e. next e ∙ ap (λ n. n + occurrences e (added input) - occurrences e (taken input)) (k.numbers e) ∙ sym (copies_next late history input e a) in
     record { numbers = numbers; events = kept_events new.events.items new.numbers.items (history ++ input ∷ []) new.in_order new.one_each new.some_copies numbers }

@@ -13,7 +13,7 @@ use Rattle.std.proofs.lemmas.List.Edits.{length-insert, length-remove}
 use Rattle.ordered_lists.specs.Canon.{has, place, Rising}
 use Rattle.ordered_lists.specs.Members.{rising_after_place}
 use Rattle.ordered_lists.proofs.Search.{found, parted}
-use Rattle.ev_term.specs.Happenings.{PlainEvent}
+use Rattle.ev_term.specs.declared.events.Event.{Event}
 use Rattle.ev_term.specs.EventOrder.{event_cmp, exact_events}
 use Rattle.ev_term.specs.Presence.{added, taken, occurrences}
 use Rattle.ev_term.specs.declared.inputs.Input.{Input}
@@ -56,13 +56,13 @@ on_ok (Ok a) f h = f h
 on_ok (Err e) f h = tt
 
 -- a search found an event at a place
-pub record FoundAt (p : Present) (q : PlainEvent) (k : ℕ) : Type 0 where
+pub record FoundAt (p : Present) (q : Event) (k : ℕ) : Type 0 where
   pub in_events : k < length p.events.items
   pub in_numbers : k < length p.numbers.items
   pub here : get_or p.events.items k q ≡ q
   pub there : has event_cmp q p.events.items ≡ true
 
-pub found_at : (p : Present) (s : List PlainEvent) → s ≡ p.events.items → (q : PlainEvent) (k : ℕ) → k < length s → HoldsAt (λ y. event_cmp y q ≡ Equal) s k → FoundAt p q k
+pub found_at : (p : Present) (s : List Event) → s ≡ p.events.items → (q : Event) (k : ℕ) → k < length s → HoldsAt (λ y. event_cmp y q ≡ Equal) s k → FoundAt p q k
 found_at p s same q k bound holds =
     let within : k < length p.events.items = subst (λ l. k < length l) same bound in
     record {
@@ -73,12 +73,12 @@ found_at p s same q k bound holds =
     }
 
 -- a search didn't find an event, and ended at a place
-pub record MissingAt (p : Present) (q : PlainEvent) (i : ℕ) : Type 0 where
+pub record MissingAt (p : Present) (q : Event) (i : ℕ) : Type 0 where
   pub in_events : i ≤ length p.events.items
   pub none : has event_cmp q p.events.items ≡ false
   pub placed : insert p.events.items i q ≡ place event_cmp q p.events.items
 
-pub missing_at : (p : Present) (s : List PlainEvent) → s ≡ p.events.items → (q : PlainEvent) (i : ℕ) → i ≤ length s
+pub missing_at : (p : Present) (s : List Event) → s ≡ p.events.items → (q : Event) (i : ℕ) → i ≤ length s
     → (IsNonDecreasingBy (λ y. ordering_index (event_cmp y q)) s → IsPartitionPoint (λ y. event_cmp y q ≡ Less) (λ y. event_cmp y q ≡ Greater) s i) → MissingAt p q i
 missing_at p s same q i bound parts =
     let rising : Rising event_cmp s = subst (λ l. Rising event_cmp l) (sym same) (rising_of event_cmp p.events.items p.in_order) in
@@ -100,14 +100,14 @@ one_less Less number old h = omega arith
 one_less Equal number old h = omega (arith, h refl)
 one_less Greater number old h = omega arith
 
-module _ (p : Present) (q : PlainEvent) where
-  abbrev number : PlainEvent → ℕ
+module _ (p : Present) (q : Event) where
+  abbrev number : Event → ℕ
   number e = number_in event_cmp e p.events.items p.numbers.items
 
   rising : Rising event_cmp p.events.items
   rising = rising_of event_cmp p.events.items p.in_order
 
-  own : (old : ℕ) → number q ≡ old → (e : PlainEvent) → event_cmp e q ≡ Equal → number e ≡ old
+  own : (old : ℕ) → number q ≡ old → (e : Event) → event_cmp e q ≡ Equal → number e ≡ old
   own old is e t = ap number (exact_events.same e q t) ∙ is
 
   -- ---- where it was found
@@ -122,18 +122,18 @@ module _ (p : Present) (q : PlainEvent) where
     pub one_each_set : (v : ℕ) → length (set p.numbers.items k v) ≡ length p.events.items
     one_each_set v = length-set p.numbers.items k v ∙ p.one_each
 
-    pub added_again : (x : ℕ) → x ≡ get_or p.numbers.items k x → (e : PlainEvent)
+    pub added_again : (x : ℕ) → x ≡ get_or p.numbers.items k x → (e : Event)
         → number_in event_cmp e p.events.items (set p.numbers.items k (x + 1)) ≡ number_in event_cmp e p.events.items p.numbers.items + occurrences e (q ∷ [])
     added_again x read e =
         number_set exact_events q e p.events.items p.numbers.items k (x + 1) rising p.one_each a.in_events a.here ∙ one_more (event_cmp e q) (number e) x (own x (sym (number_found x read)) e)
 
-    pub taken_one : (x : ℕ) → x ≡ get_or p.numbers.items k x → (e : PlainEvent)
+    pub taken_one : (x : ℕ) → x ≡ get_or p.numbers.items k x → (e : Event)
         → number_in event_cmp e p.events.items (set p.numbers.items k (x - 1)) ≡ number_in event_cmp e p.events.items p.numbers.items - occurrences e (q ∷ [])
     taken_one x read e =
         number_set exact_events q e p.events.items p.numbers.items k (x - 1) rising p.one_each a.in_events a.here ∙ one_less (event_cmp e q) (number e) x (own x (sym (number_found x read)) e)
 
-    module _ (es : List PlainEvent) (ns : List ℕ) (events_are : es ≡ remove p.events.items k) (numbers_are : ns ≡ remove p.numbers.items k) where
-      pub taken_last : (x : ℕ) → x ≡ get_or p.numbers.items k x → x ≤ 1 → (e : PlainEvent) → number_in event_cmp e es ns ≡ number_in event_cmp e p.events.items p.numbers.items - occurrences e (q ∷ [])
+    module _ (es : List Event) (ns : List ℕ) (events_are : es ≡ remove p.events.items k) (numbers_are : ns ≡ remove p.numbers.items k) where
+      pub taken_last : (x : ℕ) → x ≡ get_or p.numbers.items k x → x ≤ 1 → (e : Event) → number_in event_cmp e es ns ≡ number_in event_cmp e p.events.items p.numbers.items - occurrences e (q ∷ [])
       taken_last x read few e =
           let nothing : 0 ≡ x - 1 = omega (arith, few) in
           (λ i. number_in event_cmp e (events_are i) (numbers_are i))
@@ -159,7 +159,7 @@ module _ (p : Present) (q : PlainEvent) where
     pub number_missing : 0 ≡ number_in event_cmp q p.events.items p.numbers.items
     number_missing = sym (number_none exact_events q p.events.items p.numbers.items a.none)
 
-    pub taken_none : (e : PlainEvent) → number_in event_cmp e p.events.items p.numbers.items ≡ number_in event_cmp e p.events.items p.numbers.items - occurrences e (q ∷ [])
+    pub taken_none : (e : Event) → number_in event_cmp e p.events.items p.numbers.items ≡ number_in event_cmp e p.events.items p.numbers.items - occurrences e (q ∷ [])
     taken_none e = at (event_cmp e q) (own 0 (sym number_missing) e)
       where
         at : (c : Ordering) → (c ≡ Equal → number e ≡ 0) → number e ≡ number e - (if is_eq c then suc zero else zero)
@@ -167,8 +167,8 @@ module _ (p : Present) (q : PlainEvent) where
         at Equal h = omega (arith, h refl)
         at Greater h = omega arith
 
-    module _ (es : List PlainEvent) (ns : List ℕ) (events_are : es ≡ insert p.events.items i q) (numbers_are : ns ≡ insert p.numbers.items i 1) where
-      pub added_first : (e : PlainEvent) → number_in event_cmp e es ns ≡ number_in event_cmp e p.events.items p.numbers.items + occurrences e (q ∷ [])
+    module _ (es : List Event) (ns : List ℕ) (events_are : es ≡ insert p.events.items i q) (numbers_are : ns ≡ insert p.numbers.items i 1) where
+      pub added_first : (e : Event) → number_in event_cmp e es ns ≡ number_in event_cmp e p.events.items p.numbers.items + occurrences e (q ∷ [])
       added_first e = (λ j. number_in event_cmp e (events_are j) (numbers_are j)) ∙ number_insert exact_events q e p.events.items p.numbers.items i 1 p.one_each a.in_events a.none
           ∙ one_more (event_cmp e q) (number e) 0 (own 0 (sym number_missing) e)
 
@@ -185,7 +185,7 @@ module _ (p : Present) (q : PlainEvent) where
       some_inserted = ap positive numbers_are ∙ positive_insert p.numbers.items i 1 (omega arith) p.some_copies
 
 -- the copies after an `Add`
-pub added_one : {A E : Type 0} (r : Result A E) (input : Input) (event e : PlainEvent) (new old : ℕ) → input ≡ Add event → OnOk r (new ≡ old + occurrences e (event ∷ []))
+pub added_one : {A E : Type 0} (r : Result A E) (input : Input) (event e : Event) (new old : ℕ) → input ≡ Add event → OnOk r (new ≡ old + occurrences e (event ∷ []))
     → OnOk r (new ≡ old + occurrences e (added input) - occurrences e (taken input))
 added_one r input event e new old is h =
     subst (λ i. OnOk r (new ≡ old + occurrences e (added i) - occurrences e (taken i))) (sym is) (on_ok r (λ p. p ∙ less (old + occurrences e (event ∷ []))) h)

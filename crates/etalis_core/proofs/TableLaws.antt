@@ -4,7 +4,7 @@ use Rattle.std.specs.List.{flat_map}
 use Rattle.std.specs.declared.cmp.Ordering.{Ordering}
 use Rattle.ordered_lists.specs.Canon.{Rising, Exact, has, Rising-canon, Rising-filter, canon_one}
 use Rattle.ordered_lists.specs.Members.{without, has-without}
-use Rattle.ev_term.specs.Happenings.{PlainEvent}
+use Rattle.ev_term.specs.declared.events.Event.{Event}
 use Rattle.ev_term.specs.EventOrder.{detection_cmp, exact_detections}
 use Rattle.ev_term.specs.declared.events.Detection.{Detection}
 use Rattle.rule_ast.specs.Trees.{PlainStatement}
@@ -15,11 +15,11 @@ use Rattle.pattern_meaning.specs.Standing.{standing, detection_of}
 use Rattle.pattern_meaning.specs.Replies.{Change, change_between}
 use Rattle.etalis_core.specs.Rises.{rises, rising_of, of_rising}
 
-rising_standing : (rules : List PlainStatement) (events : List PlainEvent) → Rising detection_cmp (standing rules events)
+rising_standing : (rules : List PlainStatement) (events : List Event) → Rising detection_cmp (standing rules events)
 unfolding standing
 rising_standing rules events = Rising-canon exact_detections (flat_map (λ n. map (detection_of n) (name_rows (rules_of rules) events n)) (outputs rules))
 
-pub rises_found : (rules : List PlainStatement) (events : List PlainEvent) (found : List Detection) → found ≡ standing rules events → rises detection_cmp found ≡ true
+pub rises_found : (rules : List PlainStatement) (events : List Event) (found : List Detection) → found ≡ standing rules events → rises detection_cmp found ≡ true
 rises_found rules events found e = of_rising detection_cmp found (subst (λ l. Rising detection_cmp l) (sym e) (rising_standing rules events))
 
 and_not : (b : Bool) → (b && not b) ≡ false

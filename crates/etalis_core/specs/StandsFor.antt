@@ -1,6 +1,6 @@
 -- What an engine stands for and works from: it keeps what a history comes to, and not the history.
 use Rattle.std.specs.Prelude.{◌≡◌, ℕ, ◌^◌, ◌<◌, Bool, true, false, Option, List, [], ◌∷◌, ◌++◌}
-use Rattle.ev_term.specs.Happenings.{PlainEvent}
+use Rattle.ev_term.specs.declared.events.Event.{Event}
 use Rattle.ev_term.specs.EventOrder.{event_cmp}
 use Rattle.ev_term.specs.Presence.{copies, present, bound, judge, IsAccepted}
 use Rattle.ev_term.specs.declared.inputs.Input.{Input}
@@ -59,12 +59,12 @@ work_left engine = 0
 -- ---- what it keeps of a history
 
 -- the copies of an event among those that are present
-abbrev pub number_of : Present → PlainEvent → ℕ
+abbrev pub number_of : Present → Event → ℕ
 number_of present e = number_in event_cmp e present.events.items present.numbers.items
 
 -- the numbers that are kept are the copies of this history, and the events that are kept are those that are present after it
 pub record Keeps (kept : Present) (history : List Input) : Type 0 where
-  pub numbers : (e : PlainEvent) → number_of kept e ≡ copies history e
+  pub numbers : (e : Event) → number_of kept e ≡ copies history e
   pub events : kept.events.items ≡ present history
 
 -- the bound after the input that is begun
@@ -104,7 +104,7 @@ pub record WorksFrom (engine : Engine) (history : List Input) (input : Input) : 
 -- ---- what may be begun
 
 -- room for one copy more of the event of an `Add`
-abbrev pub HasRoom : (PlainEvent → ℕ) → Input → Type 0
+abbrev pub HasRoom : (Event → ℕ) → Input → Type 0
 HasRoom number (Add e) = number e < 2 ^ 63
 HasRoom number (Take e) = Unit {0}
 HasRoom number (Advance t) = Unit {0}

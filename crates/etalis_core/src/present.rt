@@ -19,7 +19,7 @@ pub struct Present {
 
 impl Present {
     ghost use Rattle.std.specs.Prelude.{◌≡◌, ◌+◌, ◌-◌, ◌*◌, ◌^◌, ◌<◌, ◌==◌, [], ◌∷◌, false, List, OnOk, OnErr, IfOk};
-    ghost use Rattle.ev_term.specs.Happenings.{PlainEvent};
+    ghost use Rattle.ev_term.specs.declared.events.Event.{Event};
     ghost use Rattle.ev_term.specs.Presence.{added, taken, occurrences, copies, is_absent};
     ghost use Rattle.ev_term.specs.declared.inputs.Input.{Input};
     ghost use Rattle.etalis_core.specs.StandsFor.{number_of, Keeps, HasRoom};
@@ -63,7 +63,7 @@ impl Present {
     // Adds a copy, and answers whether it is the first of its event. Where memory fails, all stays as it was.
     fn add(&mut self, event: Event) -> Result<bool, AllocError>
         requires { number_of self.old event < 2 ^ 63 }
-        ensures numbers { (e : PlainEvent) → OnOk result (number_of self.new e ≡ number_of self.old e + occurrences e (event ∷ [])) }
+        ensures numbers { (e : Event) → OnOk result (number_of self.new e ≡ number_of self.old e + occurrences e (event ∷ [])) }
         ensures first { IfOk result (λ first. first ≡ (number_of self.old event == 0)) }
         ensures same_events { IfOk result (λ first. first ≡ false → self.new.events.items ≡ self.old.events.items) }
         ensures err_events { OnErr result (self.new.events.items ≡ self.old.events.items) }
@@ -85,7 +85,7 @@ impl Present {
 
     // Takes a copy away, and answers whether it was the last of its event.
     fn take(&mut self, event: &Event) -> bool
-        ensures numbers { (e : PlainEvent) → number_of self.new e ≡ number_of self.old e - occurrences e (event.now ∷ []) }
+        ensures numbers { (e : Event) → number_of self.new e ≡ number_of self.old e - occurrences e (event.now ∷ []) }
         ensures last { result ≡ (number_of self.old event.now == 1) }
         ensures same_events { result ≡ false → self.new.events.items ≡ self.old.events.items }
     {
@@ -106,7 +106,7 @@ impl Present {
     /// Takes an input, and answers whether that changed which events are present. Where memory fails, all stays as it was.
     pub fn take_input(&mut self, input: Input) -> Result<bool, AllocError>
         requires { HasRoom (number_of self.old) input }
-        ensures numbers { (e : PlainEvent) → OnOk result (number_of self.new e ≡ number_of self.old e + occurrences e (added input) - occurrences e (taken input)) }
+        ensures numbers { (e : Event) → OnOk result (number_of self.new e ≡ number_of self.old e + occurrences e (added input) - occurrences e (taken input)) }
         ensures same_events { IfOk result (λ changed. changed ≡ false → self.new.events.items ≡ self.old.events.items) }
     {
         match input {

@@ -20,7 +20,7 @@ pub struct Table {
 
 impl Table {
     ghost use Rattle.std.specs.Prelude.{◌≡◌, [], List, false, OnOk, IfOk};
-    ghost use Rattle.ev_term.specs.Happenings.{PlainEvent};
+    ghost use Rattle.ev_term.specs.declared.events.Event.{Event};
     ghost use Rattle.rule_ast.specs.Plain.{plain_rules};
     ghost use Rattle.pattern_meaning.specs.Standing.{standing};
     ghost use Rattle.pattern_meaning.specs.Replies.{change_between};
@@ -73,7 +73,7 @@ impl Table {
         events: &[Event],
         changed: bool,
     ) -> Result<(), AllocError>
-        ensures standing { (before : List PlainEvent) → self.old.standing.items ≡ standing (plain_rules rules.now) before → (changed ≡ false → events.now ≡ before)
+        ensures standing { (before : List Event) → self.old.standing.items ≡ standing (plain_rules rules.now) before → (changed ≡ false → events.now ≡ before)
             → OnOk result (self.new.standing.items ≡ standing (plain_rules rules.now) events.now) }
         ensures change { OnOk result (change_of self.new ≡ change_between self.old.standing.items self.new.standing.items) }
     {

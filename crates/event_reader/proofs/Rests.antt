@@ -5,7 +5,7 @@ use Rattle.std.specs.List.{list_all}
 use Rattle.std.specs.Char.{digit_value}
 use Rattle.std.specs.Str.Parse.{digits_value_after}
 use Rattle.std.proofs.lemmas.Bool.{and_from, ltb-true}
-use Rattle.ev_term.specs.Happenings.{PlainEvent}
+use Rattle.ev_term.specs.declared.events.Event.{Event}
 use Rattle.ev_term.specs.declared.atoms.Atom.{Atom}
 use Rattle.ev_term.specs.declared.inputs.Input.{Input}
 use Rattle.ev_term.specs.declared.inputs.Input.TheVariants.{Add, Take, Advance, Nothing}
@@ -100,7 +100,7 @@ blanked_none P xs p = record { gap = []; back = xs; blank = refl; text = refl; n
 marked_more : (mark b : ℕ) (xs : List ℕ) (time : ℕ) (back : List ℕ) → is_blank b ≡ true → Marked mark xs time back → Marked mark (b ∷ xs) time back
 marked_more mark b xs time back h m = record { front = b ∷ m.front; gap = m.gap; digits = m.digits; front_blank = and_from _ _ h m.front_blank; is_gap = m.is_gap; is_time = m.is_time; text = ap (λ y. b ∷ y) m.text }
 
-event_more : (mark b : ℕ) (xs : List ℕ) (e : PlainEvent) → is_blank b ≡ true → OfEvent mark xs e → OfEvent mark (b ∷ xs) e
+event_more : (mark b : ℕ) (xs : List ℕ) (e : Event) → is_blank b ≡ true → OfEvent mark xs e → OfEvent mark (b ∷ xs) e
 event_more mark b xs e h r = record { gap = r.gap; atom = r.atom; end = r.end; marked = marked_more mark b xs e.time _ h r.marked; is_gap = r.is_gap; is_atom = r.is_atom; end_blank = r.end_blank }
 
 front_more : (b : ℕ) (xs : List ℕ) (i : Input) → is_blank b ≡ true → HasForm xs i → HasForm (b ∷ xs) i

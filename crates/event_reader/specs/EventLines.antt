@@ -2,7 +2,7 @@
 use Rattle.std.specs.Prelude.{◌≡◌, ◌≢◌, ◌⊎◌, ℕ, ◌^◌, ◌<◌, ◌≤◌, Bool, true, ◌||◌, ◌&&◌, ◌==◌, nat_le, List, [], ◌∷◌, ◌++◌, length, take}
 use Rattle.std.specs.List.{list_all}
 use Rattle.std.specs.Str.Parse.{digits_value}
-use Rattle.ev_term.specs.Happenings.{PlainEvent}
+use Rattle.ev_term.specs.declared.events.Event.{Event}
 use Rattle.ev_term.specs.Presence.{Said, Says, Fails}
 use Rattle.ev_term.specs.declared.atoms.Atom.{Atom}
 use Rattle.ev_term.specs.declared.inputs.Input.{Input}
@@ -55,7 +55,7 @@ pub record Marked (mark : ℕ) (line : List ℕ) (time : ℕ) (back : List ℕ) 
   pub text : line ≡ front ++ mark ∷ (gap ++ (digits ++ back))
 
 -- the mark, a time, a gap, an atom and blanks
-pub record OfEvent (mark : ℕ) (line : List ℕ) (e : PlainEvent) : Type 0 where
+pub record OfEvent (mark : ℕ) (line : List ℕ) (e : Event) : Type 0 where
   pub gap : List ℕ
   pub atom : List ℕ
   pub end : List ℕ

@@ -1,6 +1,6 @@
 -- What a reading function gives, in every state of the machine in which it is called.
 use Rattle.std.specs.Prelude.{◌≡◌, ℕ, ◌+◌, ◌^◌, ◌<◌, ◌≤◌, Bool, true, false, List, [], ◌∷◌, length, drop, Option, Some, None, Result, Ok, Err}
-use Rattle.ev_term.specs.Happenings.{PlainEvent}
+use Rattle.ev_term.specs.declared.events.Event.{Event}
 use Rattle.ev_term.specs.Presence.{Said, Says, Fails}
 use Rattle.ev_term.specs.declared.atoms.Atom.{Atom}
 use Rattle.ev_term.specs.declared.inputs.Input.{Input}
@@ -105,7 +105,7 @@ AtomAt line at (Ok x) = AtomRead line at x.0 x.1
 AtomAt line at (Err why) = (w : Way) (time : ℕ) → StopsBy why (hear (drop at line) (Wait w time) at)
 
 -- all that stands behind the mark of an event, and behind that of a time
-abbrev pub EventAt : List ℕ → ℕ → Result PlainEvent LineFault → Type 0
+abbrev pub EventAt : List ℕ → ℕ → Result Event LineFault → Type 0
 EventAt line at (Ok e) = (w : Way) → hear (drop at line) (Mark (OfEvent w)) at ≡ Says (of_event w e.time e.atom)
 EventAt line at (Err why) = (w : Way) → StopsBy why (hear (drop at line) (Mark (OfEvent w)) at)
 

@@ -12,7 +12,7 @@ use Rattle.ordered_lists.specs.Lists.{some_of, Each, flat_map_cut}
 use Rattle.ordered_lists.specs.Canon.{canon, Exact}
 use Rattle.ordered_lists.specs.Members.{canon-map-canon, canon-append-canon_both, canon-append-canon_after, canon-flat_map-canon}
 use Rattle.ev_term.specs.Spans.{PlainSpan}
-use Rattle.ev_term.specs.Happenings.{PlainEvent}
+use Rattle.ev_term.specs.declared.events.Event.{Event}
 use Rattle.ev_term.specs.EventOrder.{detection_cmp, exact_detections}
 use Rattle.ev_term.specs.declared.terms.Term.{Term}
 use Rattle.ev_term.specs.declared.terms.Pat.{Pat}
@@ -88,7 +88,7 @@ atom_rows_are p ds =
 
 -- ---- the rounds find the rows of names
 
-events_are : (n : NameArity) (es : List PlainEvent) → map found_row (of_name n (map as_detection es)) ≡ events_of es n
+events_are : (n : NameArity) (es : List Event) → map found_row (of_name n (map as_detection es)) ≡ events_of es n
 events_are n [] = refl
 events_are n (e ∷ es) = at (is_of n e.atom) (events_are n es)
   where
@@ -134,7 +134,7 @@ heads_are n ds (Clause r ∷ statements) =
     ∙ one_rule_more n ds r (rules_of statements) (map found_row (of_name n (flat_map (statement_detections ds) statements))) (has_head n r) refl (heads_are n ds statements)
 
 -- what the rounds to a depth find of a name is what its rules to that depth give
-pub rounds_are : (statements : List PlainStatement) (events : List PlainEvent) (k : ℕ) (n : NameArity) → named_in (rounds statements events k) n ≡ named_rows (rules_of statements) events k n
+pub rounds_are : (statements : List PlainStatement) (events : List Event) (k : ℕ) (n : NameArity) → named_in (rounds statements events k) n ≡ named_rows (rules_of statements) events k n
 rounds_are statements events zero n = ap rows_of (events_are n events)
 rounds_are statements events (suc k) n =
     let before = rounds statements events k in
@@ -179,7 +179,7 @@ each_most : (rank : NameArity → ℕ) (k : ℕ) (names : List NameArity) → gr
 each_most rank k [] h = tt
 each_most rank k (n ∷ names) h = (omega (arith, h), each_most rank k names (omega (arith, h)))
 
-pub found_is_standing : (statements : List PlainStatement) (events : List PlainEvent) (k : ℕ) (ds collected sorted : List Detection) (names : List NameArity) → IsRanking (rules_of statements) (rank_of (rules_of statements))
+pub found_is_standing : (statements : List PlainStatement) (events : List Event) (k : ℕ) (ds collected sorted : List Detection) (names : List NameArity) → IsRanking (rules_of statements) (rank_of (rules_of statements))
     → k ≡ greatest (map (rank_of (rules_of statements)) (outputs statements)) → ds ≡ rounds statements events k → names ≡ outputs statements
     → collected ≡ flat_map (λ n. of_name n ds) names → sorted ≡ canon detection_cmp collected → sorted ≡ standing statements events
 unfolding standing

@@ -11,13 +11,14 @@ use Rattle.std.proofs.lemmas.Bool.{true≢false, eqb-true, and_parts}
 use Rattle.std.proofs.lemmas.Slice.Eq.{bytes_eq-Decides}
 use Rattle.ordered_lists.specs.Lists.{Each}
 use Rattle.ordered_lists.specs.Canon.{has, has-append, canon_itself, Rising-canon}
-use Rattle.ev_term.specs.Happenings.{PlainEvent}
+use Rattle.ev_term.specs.declared.events.Event.{Event}
 use Rattle.ev_term.specs.declared.atoms.NameArity.{NameArity}
 use Rattle.ev_bind.specs.Rows.{exact_rows}
 use Rattle.ev_bind.specs.declared.rows.Row.{Row}
 use Rattle.rule_ast.specs.Trees.{PlainPattern, Atom, Both, Either, Where, Exact, Within, Not, PlainRule}
 use Rattle.term_eval.specs.Values.{holds}
-use Rattle.rule_check.specs.Names.{name_cmp, exact_names, name_of_atom, head_name, head_names, body_names}
+use Rattle.ev_term.specs.EventOrder.{name_cmp, exact_names}
+use Rattle.rule_check.specs.Names.{name_of_atom, head_name, head_names, body_names}
 use Rattle.rule_check.specs.Graphs.{greatest}
 use Rattle.rule_check.specs.Cycles.{below, IsRanking}
 use Rattle.pattern_meaning.specs.PatternRows.{rows_of, matched, events_of, head_row}
@@ -108,11 +109,11 @@ greatest_of rank m (x ∷ xs) e = at (name_cmp m x) refl e (greatest_of rank m x
     at Greater d g rest = let more : rank m ≤ greatest (map rank xs) = rest g in omega (arith, more)
 
 -- no heads add nothing
-none_more : (events : List PlainEvent) (n : NameArity) (l : List Row) → l ≡ [] → rows_of (rows_of (events_of events n) ++ l) ≡ rows_of (events_of events n)
+none_more : (events : List Event) (n : NameArity) (l : List Row) → l ≡ [] → rows_of (rows_of (events_of events n) ++ l) ≡ rows_of (events_of events n)
 none_more events n l e =
     ap (λ m. rows_of (rows_of (events_of events n) ++ m)) e ∙ ap rows_of (append-nil (rows_of (events_of events n))) ∙ canon_itself exact_rows (rows_of (events_of events n)) (Rising-canon exact_rows (events_of events n))
 
-module _ (rules : List PlainRule) (events : List PlainEvent) (rank : NameArity → ℕ) (ranking : IsRanking rules rank) where
+module _ (rules : List PlainRule) (events : List Event) (rank : NameArity → ℕ) (ranking : IsRanking rules rank) where
   unranked : (n : NameArity) → rank n ≡ 0 → filter (has_head n) rules ≡ []
   unranked n z = no_heads n rules (at (has name_cmp n (head_names rules)) refl)
     where

@@ -5,7 +5,7 @@ use Rattle.std.specs.Str.{bytes_eq}
 use Rattle.ordered_lists.specs.Lists.{some_of}
 use Rattle.ordered_lists.specs.Canon.{canon}
 use Rattle.ev_term.specs.Spans.{PlainSpan}
-use Rattle.ev_term.specs.Happenings.{PlainEvent}
+use Rattle.ev_term.specs.declared.events.Event.{Event}
 use Rattle.ev_term.specs.declared.terms.Term.{Term}
 use Rattle.ev_term.specs.declared.atoms.Atom.{Atom}
 use Rattle.ev_term.specs.declared.atoms.PatAtom.{PatAtom}
@@ -53,7 +53,7 @@ is_of n a = bytes_eq n.name a.name && (n.arity == length a.args)
 abbrev pub instant : ℕ → PlainSpan
 instant time = record { start = time; end = time }
 
-abbrev pub events_of : List PlainEvent → NameArity → List Row
+abbrev pub events_of : List Event → NameArity → List Row
 events_of events n = map (λ e. found e.atom.args (instant e.time)) (filter (λ e. is_of n e.atom) events)
 
 abbrev pub head_row : PatAtom → Row → Row

@@ -2,7 +2,7 @@
 use Rattle.std.specs.Prelude.{ℕ, zero, suc, Some, List, [], ◌++◌, map}
 use Rattle.std.specs.List.{filter, flat_map}
 use Rattle.ordered_lists.specs.Lists.{some_of}
-use Rattle.ev_term.specs.Happenings.{PlainEvent}
+use Rattle.ev_term.specs.declared.events.Event.{Event}
 use Rattle.ev_term.specs.declared.atoms.PatAtom.{PatAtom}
 use Rattle.ev_term.specs.declared.atoms.NameArity.{NameArity}
 use Rattle.ev_term.specs.declared.events.Detection.{Detection}
@@ -31,7 +31,7 @@ matched_rows p d = some_of (spanned (Some d.span) (match_of p d.atom))
 abbrev pub head_detection : PatAtom → Row → Detection
 head_detection head r = record { atom = record { name = head.name; args = map (λ p. instance p r.binding) head.args }; span = r.span }
 
-abbrev pub as_detection : PlainEvent → Detection
+abbrev pub as_detection : Event → Detection
 as_detection e = record { atom = e.atom; span = instant e.time }
 
 -- the head instances that a rule gives over what was found
@@ -43,9 +43,9 @@ statement_detections ds (Clause r) = rule_detections ds r
 statement_detections ds (Show names) = []
 
 -- the events, and the head instances over what the round before found
-abbrev pub next_round : List PlainStatement → List PlainEvent → List Detection → List Detection
+abbrev pub next_round : List PlainStatement → List Event → List Detection → List Detection
 next_round statements events ds = map as_detection events ++ flat_map (statement_detections ds) statements
 
-abbrev pub rounds : List PlainStatement → List PlainEvent → ℕ → List Detection
+abbrev pub rounds : List PlainStatement → List Event → ℕ → List Detection
 rounds statements events zero = map as_detection events
 rounds statements events (suc k) = next_round statements events (rounds statements events k)

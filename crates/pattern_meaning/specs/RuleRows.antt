@@ -4,7 +4,7 @@ use Rattle.std.specs.List.{filter, flat_map}
 use Rattle.std.specs.Str.{bytes_eq}
 use Rattle.ordered_lists.specs.Lists.{joins}
 use Rattle.ordered_lists.specs.Members.{without}
-use Rattle.ev_term.specs.Happenings.{PlainEvent}
+use Rattle.ev_term.specs.declared.events.Event.{Event}
 use Rattle.ev_term.specs.declared.operators.Op.{Op}
 use Rattle.ev_term.specs.declared.operators.Op.TheVariants.{Seq}
 use Rattle.ev_term.specs.declared.atoms.NameArity.{NameArity}
@@ -58,11 +58,11 @@ abbrev pub head_rows : (NameArity → List Row) → PlainRule → List Row
 head_rows named r = rows_of (map (head_row r.head) (rows named r.body))
 
 -- by rules to a depth: at depth 0 a name has its events alone
-abbrev pub named_rows : List PlainRule → List PlainEvent → ℕ → NameArity → List Row
+abbrev pub named_rows : List PlainRule → List Event → ℕ → NameArity → List Row
 named_rows rules events zero n = rows_of (events_of events n)
 named_rows rules events (suc k) n =
     rows_of (rows_of (events_of events n) ++ flat_map (head_rows (named_rows rules events k)) (filter (has_head n) rules))
 
 -- by all rules: no name of rules without a cycle is deeper than their number
-abbrev pub name_rows : List PlainRule → List PlainEvent → NameArity → List Row
+abbrev pub name_rows : List PlainRule → List Event → NameArity → List Row
 name_rows rules events n = named_rows rules events (length rules) n

@@ -2,7 +2,7 @@
 use Rattle.std.specs.Prelude.{List, map}
 use Rattle.std.specs.List.{flat_map}
 use Rattle.ordered_lists.specs.Canon.{canon}
-use Rattle.ev_term.specs.Happenings.{PlainEvent}
+use Rattle.ev_term.specs.declared.events.Event.{Event}
 use Rattle.ev_term.specs.EventOrder.{detection_cmp}
 use Rattle.ev_term.specs.declared.atoms.NameArity.{NameArity}
 use Rattle.ev_term.specs.declared.events.Detection.{Detection}
@@ -17,5 +17,5 @@ abbrev pub detection_of : NameArity → Row → Detection
 detection_of n r = record { atom = record { name = n.name; args = args_of r }; span = r.span }
 
 -- the rows of the names that are given out, as detections in order, each once
-unfoldable pub standing : List PlainStatement → List PlainEvent → List Detection
+unfoldable pub standing : List PlainStatement → List Event → List Detection
 standing statements events = canon detection_cmp (flat_map (λ n. map (detection_of n) (name_rows (rules_of statements) events n)) (outputs statements))

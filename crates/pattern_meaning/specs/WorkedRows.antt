@@ -1,6 +1,6 @@
 -- Rows of small rule files, computed. A word is one letter, by its number: a is 97.
 use Rattle.std.specs.Prelude.{ℕ, ◌≡◌, refl, List, [], ◌∷◌}
-use Rattle.ev_term.specs.Happenings.{PlainEvent}
+use Rattle.ev_term.specs.declared.events.Event.{Event}
 use Rattle.ev_term.specs.declared.operators.Op.TheVariants.{Seq, Par, During}
 use Rattle.ev_term.specs.declared.atoms.NameArity.{NameArity}
 use Rattle.ev_bind.specs.declared.rows.Row.{Row}
@@ -14,7 +14,7 @@ leaf c = Atom (record { name = c ∷ []; args = [] })
 abbrev rule : ℕ → PlainPattern → PlainRule
 rule c body = record { head = record { name = c ∷ []; args = [] }; body = body; vars = [] }
 
-abbrev event : ℕ → ℕ → PlainEvent
+abbrev event : ℕ → ℕ → Event
 event time c = record { time = time; atom = record { name = c ∷ []; args = [] } }
 
 abbrev name : ℕ → NameArity

@@ -1,6 +1,6 @@
 -- Rows of small rule files with variables, computed. A word is one letter, by its number: a is 97.
 use Rattle.std.specs.Prelude.{ℕ, ℤ, pos, ◌≡◌, [], ◌∷◌}
-use Rattle.ev_term.specs.Happenings.{PlainEvent}
+use Rattle.ev_term.specs.declared.events.Event.{Event}
 use Rattle.ev_term.specs.TermOrder.{nums}
 use Rattle.ev_term.specs.declared.operators.Op.TheVariants.{Seq, And}
 use Rattle.ev_term.specs.declared.terms.Term.TheVariants as made
@@ -19,7 +19,7 @@ leaf c slot = Atom (record { name = c ∷ []; args = pat.Var slot ∷ [] })
 abbrev rule : ℕ → PlainPattern → PlainRule
 rule c body = record { head = record { name = c ∷ []; args = [] }; body = body; vars = (88 ∷ []) ∷ ((89 ∷ []) ∷ []) }
 
-abbrev event : ℕ → ℕ → ℤ → PlainEvent
+abbrev event : ℕ → ℕ → ℤ → Event
 event time c n = record { time = time; atom = record { name = c ∷ []; args = made.Num n ∷ [] } }
 
 abbrev on : ℕ → ℕ → Row

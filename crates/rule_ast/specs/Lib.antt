@@ -2,3 +2,4 @@ pub mod Trees
 pub mod Plain
 pub mod Shaped
 pub mod Vars
+pub mod Shown

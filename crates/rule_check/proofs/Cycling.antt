@@ -10,7 +10,8 @@ use Rattle.ordered_lists.specs.Canon.{has, has-append}
 use Rattle.ev_term.specs.declared.atoms.NameArity.{NameArity}
 use Rattle.rule_ast.specs.Trees.{PlainRule}
 use Rattle.rule_ast.specs.Vars.{is_in}
-use Rattle.rule_check.specs.Names.{name_cmp, exact_names, head_name, head_names, body_names}
+use Rattle.ev_term.specs.EventOrder.{name_cmp, exact_names}
+use Rattle.rule_check.specs.Names.{head_name, head_names, body_names}
 use Rattle.rule_check.specs.Graphs.{Reaches, stop, step, HasCycle, greatest, leads, IsRankList}
 use Rattle.rule_check.specs.Components.{AreComponents}
 use Rattle.rule_check.specs.Cycles.{below, stands_on, IsOnCycle, AreAcyclic, IsFirstCycle, IsRanking, place, places, graph_of, rank_by}

@@ -11,7 +11,9 @@ use Rattle.rule_ast.specs.Trees.{PlainRule, PlainStatement, Clause, Show}
 use Rattle.rule_ast.specs.Plain.{plain_statement, plain_rule}
 use Rattle.std.specs.List.{list_all}
 use Rattle.rule_ast.specs.Shaped.{is_shaped_rule, is_shaped_head, is_shaped_pattern, is_head_argument, names_differ}
-use Rattle.rule_check.specs.Names.{name_cmp, head_name, head_names, shown_names, has_show, unknown_shows}
+use Rattle.ev_term.specs.EventOrder.{name_cmp}
+use Rattle.rule_ast.specs.Shown.{shown_names}
+use Rattle.rule_check.specs.Names.{head_name, head_names, has_show, unknown_shows}
 use Rattle.rule_check.specs.Offenders.{first}
 use Rattle.rule_check.proofs.CleanRules.{rules_in, a_rule, no_rule}
 

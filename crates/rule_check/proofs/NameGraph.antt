@@ -12,7 +12,8 @@ use Rattle.ordered_lists.specs.Canon.{has, Rising, AllAbove}
 use Rattle.ev_term.specs.declared.atoms.NameArity.{NameArity}
 use Rattle.rule_ast.specs.Trees.{PlainRule}
 use Rattle.rule_ast.specs.Vars.{is_in, is_in-none, is_in-cons}
-use Rattle.rule_check.specs.Names.{name_cmp, head_name, head_names, body_names, IsPlace}
+use Rattle.ev_term.specs.EventOrder.{name_cmp}
+use Rattle.rule_check.specs.Names.{head_name, head_names, body_names, IsPlace}
 use Rattle.rule_check.specs.Graphs.{targets, leads, IsGraph}
 use Rattle.rule_check.specs.Cycles.{below, place, places, graph_of}
 use Rattle.rule_check.proofs.Placing.{itself, same_name, places-append}

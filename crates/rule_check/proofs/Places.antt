@@ -11,7 +11,8 @@ use Rattle.std.proofs.lemmas.List.Sorted.{searchable_from_sorted}
 use Rattle.ordered_lists.specs.Canon.{has, Rising}
 use Rattle.ordered_lists.proofs.Search.{sorted_from_rising, parted, found}
 use Rattle.ev_term.specs.declared.atoms.NameArity.{NameArity}
-use Rattle.rule_check.specs.Names.{name_cmp, exact_names, IsPlace}
+use Rattle.ev_term.specs.EventOrder.{name_cmp, exact_names}
+use Rattle.rule_check.specs.Names.{IsPlace}
 
 least : (c : Ordering) → ordering_index c ≤ ordering_index Less → c ≡ Less
 least Less h = refl

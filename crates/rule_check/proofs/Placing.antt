@@ -10,7 +10,8 @@ use Rattle.std.proofs.lemmas.Bool.{true≢false}
 use Rattle.std.proofs.lemmas.List.Elements.{filter_map-append}
 use Rattle.ordered_lists.specs.Canon.{has, Rising, AllAbove}
 use Rattle.ev_term.specs.declared.atoms.NameArity.{NameArity}
-use Rattle.rule_check.specs.Names.{name_cmp, exact_names, IsPlace}
+use Rattle.ev_term.specs.EventOrder.{name_cmp, exact_names}
+use Rattle.rule_check.specs.Names.{IsPlace}
 use Rattle.rule_check.specs.Cycles.{place, places}
 
 clash : {P : Type 0} (b : Bool) → b ≡ false → b ≡ true → P

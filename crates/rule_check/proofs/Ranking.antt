@@ -8,7 +8,8 @@ use Rattle.std.proofs.lemmas.List.{length-map, get_or_default}
 use Rattle.ordered_lists.specs.Canon.{place as put, placed, canon, has, Rising, Rising-canon, has-canon}
 use Rattle.ev_term.specs.declared.atoms.NameArity.{NameArity}
 use Rattle.rule_ast.specs.Trees.{PlainRule}
-use Rattle.rule_check.specs.Names.{name_cmp, exact_names, head_name, head_names, IsPlace}
+use Rattle.ev_term.specs.EventOrder.{name_cmp, exact_names}
+use Rattle.rule_check.specs.Names.{head_name, head_names, IsPlace}
 use Rattle.rule_check.specs.Graphs.{greatest, IsRankList}
 use Rattle.rule_check.specs.Cycles.{below, IsRanking, rank_within, rank_of, place, graph_of, rank_by}
 use Rattle.rule_check.proofs.Placing.{itself, same_name, place_is, no_place}

@@ -6,7 +6,8 @@ use Rattle.std.specs.Ordering.{is_eq}
 use Rattle.ordered_lists.specs.Canon.{has}
 use Rattle.ev_term.specs.declared.atoms.NameArity.{NameArity}
 use Rattle.rule_ast.specs.Trees.{PlainRule}
-use Rattle.rule_check.specs.Names.{name_cmp, head_name, head_names, body_names}
+use Rattle.ev_term.specs.EventOrder.{name_cmp}
+use Rattle.rule_check.specs.Names.{head_name, head_names, body_names}
 use Rattle.rule_check.specs.Graphs.{Reaches, greatest}
 
 -- the names in the bodies of a name's rules

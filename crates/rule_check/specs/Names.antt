@@ -5,18 +5,12 @@ use Rattle.std.specs.declared.cmp.Ordering.{Ordering}
 use Rattle.ordered_lists.specs.Canon.{canon, has}
 use Rattle.ordered_lists.specs.Canon.{Exact as TellsApart}
 use Rattle.ordered_lists.specs.Orders.{exact_numbers, exact_texts, exact_then}
-use Rattle.ev_term.specs.TermOrder.{bytes_cmp}
+use Rattle.ev_term.specs.EventOrder.{name_cmp}
 use Rattle.ev_term.specs.declared.atoms.PatAtom.{PatAtom}
 use Rattle.ev_term.specs.declared.atoms.NameArity.{NameArity}
 use Rattle.rule_ast.specs.Trees.{PlainPattern, Atom, Both, Either, Where, Exact, Within, Not, PlainRule, PlainStatement, Clause, Show}
+use Rattle.rule_ast.specs.Shown.{shown_names}
 use Rattle.rule_check.specs.Sound.{rules_of}
-
--- by name, and then by number of arguments
-abbrev pub name_cmp : NameArity → NameArity → Ordering
-name_cmp = then_cmp (on (λ n. n.name) bytes_cmp) (on (λ n. n.arity) nat_cmp)
-
-pub exact_names : TellsApart name_cmp
-exact_names = exact_then (λ n. n.name) (λ n. n.arity) (λ x y p q i. record { name = p i; arity = q i }) exact_texts exact_numbers
 
 -- the name that an atom is of
 abbrev pub name_of_atom : PatAtom → NameArity
@@ -38,12 +32,6 @@ body_names (Not i b a) = body_names i ++ (body_names b ++ body_names a)
 -- the names that head rules
 abbrev pub head_names : List PlainRule → List NameArity
 head_names rules = map head_name rules
-
--- the names of the `show` statements
-abbrev pub shown_names : List PlainStatement → List NameArity
-shown_names [] = []
-shown_names (Clause r ∷ statements) = shown_names statements
-shown_names (Show names ∷ statements) = names ++ shown_names statements
 
 abbrev pub has_show : List PlainStatement → Bool
 has_show [] = false

@@ -6,7 +6,9 @@ use Rattle.rule_ast.specs.Shaped.{IsShaped}
 use Rattle.rule_ast.specs.Trees.{PlainRule, PlainStatement}
 use Rattle.rule_check.specs.Offenders.{first}
 use Rattle.rule_check.specs.Sound.{rules_of, AreSafe}
-use Rattle.rule_check.specs.Names.{name_cmp, head_names, shown_names, outputs, unknown_shows, AreShownKnown}
+use Rattle.ev_term.specs.EventOrder.{name_cmp}
+use Rattle.rule_ast.specs.Shown.{shown_names}
+use Rattle.rule_check.specs.Names.{head_names, outputs, unknown_shows, AreShownKnown}
 use Rattle.rule_check.specs.Cycles.{AreAcyclic, IsFirstCycle, IsRanking, rank_of, rank_by}
 use Rattle.rule_check.specs.Faults.{variable_faults}
 use Rattle.rule_check.specs.declared.faults.CheckFault.{CheckFault}

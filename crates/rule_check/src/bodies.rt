@@ -2,7 +2,8 @@
 ghost use Rattle.std.specs.Prelude.{◌≡◌, ◌++◌, length, OnOk};
 ghost use Rattle.ordered_lists.specs.Canon.{Rising};
 ghost use Rattle.rule_ast.specs.Plain.{plain_pattern};
-ghost use Rattle.rule_check.specs.Names.{name_cmp, body_names};
+ghost use Rattle.ev_term.specs.EventOrder.{name_cmp};
+ghost use Rattle.rule_check.specs.Names.{body_names};
 ghost use Rattle.rule_check.specs.Cycles.{place, places};
 
 use crate::names::place_of;

@@ -9,7 +9,8 @@ ghost use Rattle.rule_ast.specs.Trees.{PlainRule};
 ghost use Rattle.rule_check.specs.Cycles.{graph_of, place, places, IsOnCycle, IsCycleAnswer};
 ghost use Rattle.rule_check.specs.Components.{AreComponents};
 ghost use Rattle.rule_check.specs.Graphs.{targets};
-ghost use Rattle.rule_check.specs.Names.{name_cmp, body_names, head_name, head_names};
+ghost use Rattle.ev_term.specs.EventOrder.{name_cmp};
+ghost use Rattle.rule_check.specs.Names.{body_names, head_name, head_names};
 ghost use Rattle.rule_check.specs.Sound.{rules_of};
 
 use crate::bodies::push_nodes;

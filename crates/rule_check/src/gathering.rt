@@ -3,7 +3,9 @@ ghost use Rattle.std.specs.Prelude.{◌≡◌, ◌+◌, ◌<◌, ◌^◌, ◌++�
 ghost use Rattle.ordered_lists.specs.Canon.{Rising};
 ghost use Rattle.rule_ast.specs.Plain.{plain_statement};
 ghost use Rattle.rule_ast.specs.Shaped.{IsShaped};
-ghost use Rattle.rule_check.specs.Names.{name_cmp, head_names, shown_names, has_show, unknown_shows};
+ghost use Rattle.ev_term.specs.EventOrder.{name_cmp};
+ghost use Rattle.rule_ast.specs.Shown.{shown_names};
+ghost use Rattle.rule_check.specs.Names.{head_names, has_show, unknown_shows};
 ghost use Rattle.rule_check.specs.Offenders.{first};
 ghost use Rattle.rule_check.specs.Sound.{rules_of};
 

@@ -5,7 +5,8 @@ ghost use Rattle.std.specs.Ordering.{eq_by_cmp, as_partial_cmp};
 ghost use Rattle.std.proofs.Common.{refl};
 ghost use Rattle.std.proofs.lemmas.Cmp.{eq_by_cmp_equiv};
 ghost use Rattle.ordered_lists.specs.Canon.{canon, has, Rising};
-ghost use Rattle.rule_check.specs.Names.{name_cmp, exact_names, IsPlace};
+ghost use Rattle.ev_term.specs.EventOrder.{name_cmp, exact_names};
+ghost use Rattle.rule_check.specs.Names.{IsPlace};
 
 use ev_term::{Name, NameArity};
 use ordered_lists::sort_unique;
@@ -97,7 +98,7 @@ impl Ord for Ordered {
 }
 
 // The names in order, each once.
-#[tactic(auto, using(crate::specs::Names::exact_names))]
+#[tactic(auto, using(ev_term::specs::EventOrder::exact_names))]
 pub(crate) fn in_order(alloc: Global, unsorted: Vec<Ordered>) -> Result<Vec<NameArity>, AllocError>
     ensures { IfOk result (λ v. v.items ≡ canon name_cmp unsorted.items) }
 {

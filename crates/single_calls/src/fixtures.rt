@@ -2,7 +2,7 @@
 ghost use Rattle.std.specs.Prelude.{◌≡◌, [], true, map, IfOk};
 ghost use Rattle.rule_ast.specs.Plain.{plain_statement, plain_rules};
 ghost use Rattle.rule_ast.specs.Shaped.{IsShaped};
-ghost use Rattle.rule_check.specs.Names.{shown_names};
+ghost use Rattle.rule_ast.specs.Shown.{shown_names};
 
 use ev_term::{Atom, Name, Pat, PatAtom, Pats, Slot, Term, Terms};
 use rule_ast::{RuleSet, Statement};

@@ -1,6 +1,7 @@
 use Rattle.std.proofs.Common.{◌≡◌, ◌++◌, false, Some, length, append-nil, ap, sym, ◌∙◌}
 use Rattle.ordered_lists.specs.Canon.{has}
-use Rattle.rule_check.specs.Names.{name_cmp, IsPlace}
+use Rattle.ev_term.specs.EventOrder.{name_cmp}
+use Rattle.rule_check.specs.Names.{IsPlace}
 use Rattle.rule_check.proofs.Placing.{one_place, none_place}
 use Rattle.rule_check.proofs.bodies.+push_nodes.Goals as goal
 

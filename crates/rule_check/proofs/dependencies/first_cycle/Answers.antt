@@ -1,7 +1,8 @@
 use Rattle.std.proofs.Common.{arith, length, ◌∙◌, ap, sym, subst}
 use Rattle.ordered_lists.specs.Canon.{has}
 use Rattle.rule_ast.specs.Plain.{plain_rule, plain_statement}
-use Rattle.rule_check.specs.Names.{name_cmp, head_name, head_names}
+use Rattle.ev_term.specs.EventOrder.{name_cmp}
+use Rattle.rule_check.specs.Names.{head_name, head_names}
 use Rattle.rule_check.specs.Components.{AreComponents}
 use Rattle.rule_check.specs.Graphs.{IsGraph}
 use Rattle.rule_check.proofs.CleanRules.{few_before, rule_among, a_rule, no_rule, rules_in}

@@ -1,6 +1,6 @@
 use Rattle.std.proofs.Common.{ap, ◌∙◌}
 use Rattle.ordered_lists.specs.Canon.{has}
-use Rattle.rule_check.specs.Names.{name_cmp}
+use Rattle.ev_term.specs.EventOrder.{name_cmp}
 use Rattle.rule_check.proofs.Places.{among}
 use Rattle.rule_check.proofs.names.Ordered.is_among.Goals as goal
 
