@@ -1,3 +1,5 @@
+pub mod Eachs
 pub mod RoundLaws
 pub mod ClimbingLaws
 pub mod RefusalLaws
+pub mod BoundLaws

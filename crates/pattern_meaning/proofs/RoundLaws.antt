@@ -29,6 +29,7 @@ use Rattle.rule_check.specs.Sound.{rules_of}
 use Rattle.rule_check.specs.Names.{outputs}
 use Rattle.rule_check.specs.Graphs.{greatest}
 use Rattle.rule_check.specs.Cycles.{IsRanking, rank_of, rank_most}
+use Rattle.pattern_meaning.proofs.Eachs.{each, Each-more}
 use Rattle.pattern_meaning.specs.PatternRows.{rows_of, numbered, found, args_of, matched, spanned, name_of, is_of, events_of, head_row}
 use Rattle.pattern_meaning.specs.Standing.{detection_of, standing}
 use Rattle.pattern_meaning.specs.RuleRows.{rows, has_head, head_rows, named_rows, name_rows}
@@ -40,7 +41,7 @@ numbered-args k [] = refl
 numbered-args k (t ∷ ts) = ap (λ l. t ∷ l) (numbered-args (suc k) ts)
 
 -- a row of a name keeps its arguments
-args_of-found : (ts : List Term) (span : PlainSpan) → args_of (found ts span) ≡ ts
+pub args_of-found : (ts : List Term) (span : PlainSpan) → args_of (found ts span) ≡ ts
 args_of-found ts span = numbered-args 0 ts
 
 map-append : {A B : Type 0} (f : A → B) (xs ys : List A) → map f (xs ++ ys) ≡ map f xs ++ map f ys
@@ -76,10 +77,6 @@ keeps p d own = at (bytes_eq p.name d.atom.name) refl own
     at : (b : Bool) → bytes_eq p.name d.atom.name ≡ b → (b && (length p.args == length d.atom.args)) ≡ true → some_of (spanned (Some d.span) (cond b (match_of_args p.args d.atom.args) None)) ≡ matched p (found_row d)
     at false n h = absurd (true≢false (sym h))
     at true n h = ap (λ ts. some_of (spanned (Some d.span) (match_of_args p.args ts))) (sym (args_of-found d.atom.args d.span))
-
-each : {A : Type 0} (xs : List A) → Each (λ _. Unit {0}) xs
-each [] = tt
-each (x ∷ xs) = (tt, each xs)
 
 pub atom_rows_are : (p : PatAtom) (ds : List Detection) → rows_of (flat_map (matched_rows p) ds) ≡ rows_of (flat_map (matched p) (named_in ds (name_of p)))
 atom_rows_are p ds =
@@ -171,10 +168,6 @@ parts_alike o f g [] a = refl
 parts_alike {R = R} o f g (x ∷ xs) a =
     let rest = parts_alike o f g xs a.1 in
     sym (canon-append-canon_both o (f x) (flat_map f xs)) ∙ (λ i. canon R (a.0 i ++ rest i)) ∙ canon-append-canon_both o (g x) (flat_map g xs)
-
-Each-more : {A : Type 0} (P Q : A → Type 0) → ((x : A) → P x → Q x) → (xs : List A) → Each P xs → Each Q xs
-Each-more P Q f [] a = tt
-Each-more P Q f (x ∷ xs) a = (f x a.0, Each-more P Q f xs a.1)
 
 each_most : (rank : NameArity → ℕ) (k : ℕ) (names : List NameArity) → greatest (map rank names) ≤ k → Each (λ n. rank n ≤ k) names
 each_most rank k [] h = tt

@@ -9,3 +9,4 @@ pub mod WorkedVariables
 pub mod Replies
 pub mod Left
 pub mod Refusals
+pub mod Bound

@@ -7,4 +7,6 @@ mod forms;
 mod laws;
 
 pub use evaluating::scratch;
-pub use laws::{refusals_have_causes, replies_leave_what_stands};
+pub use laws::{
+    ranks_suffice, refusals_have_causes, replies_leave_what_stands, rows_bind_variables,
+};
