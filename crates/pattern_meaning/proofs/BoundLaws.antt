@@ -42,7 +42,7 @@ use Rattle.pattern_meaning.specs.PatternRows.{spanned, numbered, found, args_of,
 use Rattle.pattern_meaning.specs.RuleRows.{joined, joined_rows, is_long, is_short, rows, has_head, head_rows, named_rows}
 use Rattle.pattern_meaning.specs.Bound.{BindsExactly, AreRowsBound, AreConditionsBound, AreChainsBound, IsHeadBoundBy, IsBoundBy, IsRowOfName}
 use Rattle.pattern_meaning.proofs.Eachs.{each, Each-more, Each-map}
-use Rattle.pattern_meaning.proofs.RoundLaws.{args_of-found}
+use Rattle.pattern_meaning.proofs.FoundLaws.{args_of-found}
 
 -- ---- the variables of arguments
 

@@ -1,5 +1,6 @@
 pub mod Eachs
-pub mod RoundLaws
+pub mod FoundLaws
 pub mod ClimbingLaws
 pub mod RefusalLaws
 pub mod BoundLaws
+pub mod OrderLaws

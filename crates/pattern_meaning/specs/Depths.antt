@@ -138,10 +138,10 @@ none_more events n l e =
 
 module _ (rules : List PlainRule) (events : List Event) (rank : NameArity → ℕ) (ranking : IsRanking rules rank) where
   -- the rank of a name that heads a rule
-  one_more : (n : NameArity) → has name_cmp n (head_names rules) ≡ true → rank n ≡ greatest (map rank (below rules n)) + 1
+  pub one_more : (n : NameArity) → has name_cmp n (head_names rules) ≡ true → rank n ≡ greatest (map rank (below rules n)) + 1
   one_more n e = ranking n ∙ ap (λ b. cond b (greatest (map rank (below rules n)) + 1) 0) e
 
-  unranked : (n : NameArity) → rank n ≡ 0 → filter (has_head n) rules ≡ []
+  pub unranked : (n : NameArity) → rank n ≡ 0 → filter (has_head n) rules ≡ []
   unranked n z = no_heads n rules (at (has name_cmp n (head_names rules)) refl)
     where
       at : (b : Bool) → has name_cmp n (head_names rules) ≡ b → b ≡ false

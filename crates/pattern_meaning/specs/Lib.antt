@@ -1,7 +1,9 @@
 pub mod PatternRows
 pub mod Standing
 pub mod RuleRows
-pub mod Rounds
+pub mod Found
+pub mod Words
+pub mod RuleOrder
 pub mod Depths
 pub mod Climbing
 pub mod WorkedRows

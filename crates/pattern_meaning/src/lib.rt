@@ -4,7 +4,9 @@
 mod bodies;
 mod evaluating;
 mod forms;
+mod found;
 mod laws;
+mod rule_order;
 
 pub use evaluating::scratch;
 pub use laws::{
