@@ -1,2 +1,6 @@
-pub mod RoundLaws
+pub mod Eachs
+pub mod FoundLaws
 pub mod ClimbingLaws
+pub mod RefusalLaws
+pub mod BoundLaws
+pub mod OrderLaws

@@ -1,10 +1,14 @@
 pub mod PatternRows
 pub mod Standing
 pub mod RuleRows
-pub mod Rounds
+pub mod Found
+pub mod Words
+pub mod RuleOrder
 pub mod Depths
 pub mod Climbing
 pub mod WorkedRows
 pub mod WorkedVariables
 pub mod Replies
 pub mod Left
+pub mod Refusals
+pub mod Bound

@@ -7,9 +7,11 @@ ghost use Rattle.rule_ast.specs.Plain.{plain_pattern};
 ghost use Rattle.pattern_meaning.specs.Climbing.{left_part, rows_over};
 ghost use Rattle.pattern_meaning.specs.PatternRows.{matched, name_of, rows_of};
 ghost use Rattle.pattern_meaning.specs.RuleRows.{rows};
-ghost use Rattle.pattern_meaning.specs.Rounds.{named_in, matched_rows};
+ghost use Rattle.pattern_meaning.specs.Found.{named_by, matched_rows};
+ghost use Rattle.pattern_meaning.specs.Words.{words_of};
 
 use crate::forms::{in_order, join_rows, remaining_rows, rows_of_length, rows_where, rows_within};
+use crate::found::Found;
 use ev_bind::{Row, match_atom};
 use ev_term::{Detection, PatAtom};
 use rule_ast::Pattern;
@@ -19,10 +21,10 @@ use std::alloc::{AllocError, Global};
 #[cycle(bodies)]
 pub(crate) fn pattern_rows(
     alloc: Global,
-    found: &[Detection],
+    found: &Found,
     pattern: &Pattern,
 ) -> Result<Vec<Row>, AllocError>
-    ensures { IfOk result (λ v. v.items ≡ rows (named_in found.now) (plain_pattern pattern.now)) }
+    ensures { IfOk result (λ v. v.items ≡ rows (named_by (words_of found.now)) (plain_pattern pattern.now)) }
 {
     let mut spine = Vec::new(alloc);
     let mut first = pattern;
@@ -49,9 +51,9 @@ fn left_part(pattern: &Pattern) -> Option<&Pattern>
 
 // The rows of a pattern without a left part.
 #[cycle(bodies)]
-fn first_rows(alloc: Global, found: &[Detection], first: &Pattern) -> Result<Vec<Row>, AllocError>
+fn first_rows(alloc: Global, found: &Found, first: &Pattern) -> Result<Vec<Row>, AllocError>
     requires { left_part (plain_pattern first.now) ≡ None }
-    ensures { IfOk result (λ v. v.items ≡ rows (named_in found.now) (plain_pattern first.now)) }
+    ensures { IfOk result (λ v. v.items ≡ rows (named_by (words_of found.now)) (plain_pattern first.now)) }
 {
     match first {
         Pattern::Atom(atom) => atom_rows(alloc, found, atom),
@@ -75,12 +77,8 @@ fn first_rows(alloc: Global, found: &[Detection], first: &Pattern) -> Result<Vec
 
 // The rows of a right operand: an atom, a NOT, or a pattern in brackets.
 #[cycle(bodies)]
-fn operand_rows(
-    alloc: Global,
-    found: &[Detection],
-    operand: &Pattern,
-) -> Result<Vec<Row>, AllocError>
-    ensures { IfOk result (λ v. v.items ≡ rows (named_in found.now) (plain_pattern operand.now)) }
+fn operand_rows(alloc: Global, found: &Found, operand: &Pattern) -> Result<Vec<Row>, AllocError>
+    ensures { IfOk result (λ v. v.items ≡ rows (named_by (words_of found.now)) (plain_pattern operand.now)) }
 {
     match left_part(operand) {
         None => first_rows(alloc, found, operand),
@@ -92,11 +90,11 @@ fn operand_rows(
 #[cycle(bodies)]
 fn rows_over(
     alloc: Global,
-    found: &[Detection],
+    found: &Found,
     whole: &Pattern,
     left_rows: Vec<Row>,
 ) -> Result<Vec<Row>, AllocError>
-    ensures { IfOk result (λ v. v.items ≡ rows_over (named_in found.now) (plain_pattern whole.now) left_rows.items) }
+    ensures { IfOk result (λ v. v.items ≡ rows_over (named_by (words_of found.now)) (plain_pattern whole.now) left_rows.items) }
 {
     match whole {
         Pattern::Both(op, _, right) => {
@@ -117,10 +115,10 @@ fn rows_over(
 }
 
 // The rows of an atom of a rule over what was found.
-fn atom_rows(alloc: Global, found: &[Detection], pat: &PatAtom) -> Result<Vec<Row>, AllocError>
-    ensures { IfOk result (λ v. v.items ≡ rows_of (flat_map (matched pat.now) (named_in found.now (name_of pat.now)))) }
+fn atom_rows(alloc: Global, found: &Found, pat: &PatAtom) -> Result<Vec<Row>, AllocError>
+    ensures { IfOk result (λ v. v.items ≡ rows_of (flat_map (matched pat.now) (named_by (words_of found.now) (name_of pat.now)))) }
 {
-    let matching = matching_rows(alloc, found, pat)?;
+    let matching = matching_rows(alloc, found.of_word(&pat.name), pat)?;
     let sorted = in_order(matching)?;
     Ok(sorted)
 }

@@ -1,22 +1,20 @@
-// The plain evaluator of rules. It finds detections round by round, as deep as the names that are given out are, and looks
-// at all pairs of rows.
-ghost use Rattle.std.specs.Prelude.{◌≡◌, ◌++◌, map, max, IfOk, OnOk};
+// The plain evaluator of rules. It evaluates each rule once, in the order of the ranks of heads, and looks at all pairs of rows.
+ghost use Rattle.std.specs.Prelude.{◌≡◌, ◌++◌, map, IfOk, OnOk};
 ghost use Rattle.std.specs.List.{flat_map};
-ghost use Rattle.ordered_lists.specs.Canon.{canon};
-ghost use Rattle.rule_ast.specs.Plain.{plain_rules, plain_statement};
-ghost use Rattle.rule_check.specs.Cycles.{rank_of};
-ghost use Rattle.rule_check.specs.Graphs.{greatest};
-ghost use Rattle.rule_check.specs.Names.{outputs};
-ghost use Rattle.rule_check.specs.Sound.{rules_of};
+ghost use Rattle.rule_ast.specs.Plain.{plain_rule, plain_rules};
 ghost use Rattle.pattern_meaning.specs.PatternRows.{is_of};
 ghost use Rattle.pattern_meaning.specs.Standing.{standing};
-ghost use Rattle.pattern_meaning.specs.Rounds.{of_name, head_detection, as_detection, statement_detections, next_round, rounds};
+ghost use Rattle.pattern_meaning.specs.Found.{of_name, head_detection, as_detection, rule_detections, with_all, with_rules};
+ghost use Rattle.pattern_meaning.specs.Words.{words_of};
+ghost use Rattle.pattern_meaning.specs.RuleOrder.{rules_at};
 
 use crate::bodies::pattern_rows;
+use crate::found::Found;
+use crate::rule_order::rules_by_rank;
 use ev_bind::{Row, instance_atom};
-use ev_term::{Atom, Detection, Event, NameArity, PatAtom, Span};
+use ev_term::{Atom, Detection, Event, NameArity, PatAtom};
 use ordered_lists::sort_unique;
-use rule_ast::Statement;
+use rule_ast::Rule;
 use rule_check::Checked;
 use std::alloc::{AllocError, Global};
 
@@ -28,85 +26,45 @@ pub fn scratch(
 ) -> Result<Vec<Detection>, AllocError>
     ensures { IfOk result (λ found. found.items ≡ standing (plain_rules checked.now) events.now) }
 {
-    let statements = checked.rules().statements.as_slice();
-    let found = find_rounds(alloc, statements, events, deepest(checked))?;
+    let rules = rules_by_rank(alloc, checked)?;
+    let mut found = Found::new(alloc);
+    push_events(alloc, events, &mut found)?;
+    push_rules(alloc, &rules, &mut found)?;
     let mut shown = found_of_names(alloc, checked.shown(), &found)?;
     sort_unique(&mut shown)?;
     Ok(shown)
 }
 
-// The greatest rank of the names that are given out.
-fn deepest(checked: &Checked) -> u32
-    ensures { result ≡ greatest (map (rank_of (rules_of (plain_rules checked.now))) (outputs (plain_rules checked.now))) }
+// The events, as detections on their spans.
+fn push_events(alloc: Global, events: &[Event], found: &mut Found) -> Result<(), AllocError>
+    ensures { OnOk result (words_of found.new ≡ with_all (words_of found.old) (map as_detection events.now)) }
 {
-    let names = checked.shown();
-    let mut depth = 0;
-    for name in names {
-        depth = depth.max(checked.rank(name));
-    }
-    depth
-}
-
-// What is found down to a depth of rules.
-fn find_rounds(
-    alloc: Global,
-    statements: &[Statement],
-    events: &[Event],
-    depth: u32,
-) -> Result<Vec<Detection>, AllocError>
-    ensures { IfOk result (λ v. v.items ≡ rounds (map plain_statement statements.now) events.now depth) }
-{
-    let mut found = own_detections(alloc, events)?;
-    for round in 0..depth {
-        found = find_next(alloc, statements, events, &found)?;
-    }
-    Ok(found)
-}
-
-// What is found by one rule more.
-fn find_next(
-    alloc: Global,
-    statements: &[Statement],
-    events: &[Event],
-    found: &[Detection],
-) -> Result<Vec<Detection>, AllocError>
-    ensures { IfOk result (λ v. v.items ≡ next_round (map plain_statement statements.now) events.now found.now) }
-{
-    let mut next = own_detections(alloc, events)?;
-    for statement in statements {
-        push_statement(alloc, statement, found, &mut next)?;
-    }
-    Ok(next)
-}
-
-// The events, as detections on instants.
-fn own_detections(alloc: Global, events: &[Event]) -> Result<Vec<Detection>, AllocError>
-    ensures { IfOk result (λ v. v.items ≡ map as_detection events.now) }
-{
-    let mut found = Vec::new(alloc);
     for event in events {
-        let atom = event.atom().share()?;
-        let span = Span::new(event.time(), event.time());
-        found.push(Detection { atom, span })?;
+        let atom = event.atom.share()?;
+        let detection = Detection {
+            atom,
+            span: event.span,
+        };
+        found.push(alloc, detection)?;
     }
-    Ok(found)
+    Ok(())
 }
 
-fn push_statement(
-    alloc: Global,
-    statement: &Statement,
-    found: &[Detection],
-    next: &mut Vec<Detection>,
-) -> Result<(), AllocError>
-    ensures { OnOk result (next.new.items ≡ next.old.items ++ statement_detections found.now (plain_statement statement.now)) }
+// What the rules give, each over what was found before it.
+fn push_rules(alloc: Global, rules: &[&Rule], found: &mut Found) -> Result<(), AllocError>
+    ensures { OnOk result (words_of found.new ≡ with_rules (words_of found.old) (rules_at rules.now)) }
 {
-    match statement {
-        Statement::Rule(rule) => {
-            let rows = pattern_rows(alloc, found, &rule.body)?;
-            push_heads(alloc, &rule.head, &rows, next)
-        }
-        Statement::Show(_) => Ok(()),
+    for rule in rules {
+        push_rule(alloc, rule, found)?;
     }
+    Ok(())
+}
+
+fn push_rule(alloc: Global, rule: &Rule, found: &mut Found) -> Result<(), AllocError>
+    ensures { OnOk result (words_of found.new ≡ with_all (words_of found.old) (rule_detections (words_of found.old) (plain_rule rule.now))) }
+{
+    let rows = pattern_rows(alloc, found, &rule.body)?;
+    push_heads(alloc, &rule.head, &rows, found)
 }
 
 // The head instances of rows.
@@ -114,16 +72,17 @@ fn push_heads(
     alloc: Global,
     head: &PatAtom,
     rows: &[Row],
-    next: &mut Vec<Detection>,
+    found: &mut Found,
 ) -> Result<(), AllocError>
-    ensures { OnOk result (next.new.items ≡ next.old.items ++ map (head_detection head.now) rows.now) }
+    ensures { OnOk result (words_of found.new ≡ with_all (words_of found.old) (map (head_detection head.now) rows.now)) }
 {
     for row in rows {
         let atom = instance_atom(alloc, head, &row.binding)?;
-        next.push(Detection {
+        let detection = Detection {
             atom,
             span: row.span,
-        })?;
+        };
+        found.push(alloc, detection)?;
     }
     Ok(())
 }
@@ -139,13 +98,13 @@ fn is_of(name: &NameArity, atom: &Atom) -> bool
 fn found_of_names(
     alloc: Global,
     names: &[NameArity],
-    found: &[Detection],
+    found: &Found,
 ) -> Result<Vec<Detection>, AllocError>
-    ensures { IfOk result (λ v. v.items ≡ flat_map (λ n. of_name n found.now) names.now) }
+    ensures { IfOk result (λ v. v.items ≡ flat_map (λ n. of_name n (words_of found.now n.name)) names.now) }
 {
     let mut shown = Vec::new(alloc);
     for name in names {
-        push_named(name, found, &mut shown)?;
+        push_named(name, found.of_word(&name.name), &mut shown)?;
     }
     Ok(shown)
 }

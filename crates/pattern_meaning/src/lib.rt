@@ -4,7 +4,11 @@
 mod bodies;
 mod evaluating;
 mod forms;
+mod found;
 mod laws;
+mod rule_order;
 
 pub use evaluating::scratch;
-pub use laws::replies_leave_what_stands;
+pub use laws::{
+    ranks_suffice, refusals_have_causes, replies_leave_what_stands, rows_bind_variables,
+};

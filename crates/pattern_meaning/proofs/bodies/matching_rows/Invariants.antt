@@ -1,6 +1,6 @@
 use Rattle.std.proofs.Common.{◌≡◌, ◌++◌, drop}
 use Rattle.std.specs.List.{flat_map}
-use Rattle.pattern_meaning.specs.Rounds.{matched_rows}
+use Rattle.pattern_meaning.specs.Found.{matched_rows}
 use Rattle.pattern_meaning.proofs.bodies.matching_rows.Given as goal
 
 -- the rows so far and those that are left are all

@@ -1,7 +1,10 @@
-use Rattle.std.proofs.Common.{◌≡◌, ◌++◌, drop, map}
-use Rattle.pattern_meaning.specs.Rounds.{head_detection}
+use Rattle.std.proofs.Common.{◌≡◌, drop, map}
+use Rattle.pattern_meaning.specs.Found.{head_detection, with_all}
+use Rattle.pattern_meaning.specs.Words.{words_of}
 use Rattle.pattern_meaning.proofs.evaluating.push_heads.Given as goal
 
--- the detections so far and those of the rows that are left are all
+-- those that are left make of what was found all that there is to find
 abbrev pub invariant-loop-row : goal.invariant-loop-row
-invariant-loop-row l = l.next.items ++ map (head_detection l.head) (drop l.row-index l.rows) ≡ l.initial.next.items ++ map (head_detection l.head) l.rows
+invariant-loop-row l =
+    with_all (words_of l.found) (map (head_detection l.head) (drop l.row-index l.rows))
+    ≡ with_all (words_of l.initial.found) (map (head_detection l.head) l.rows)

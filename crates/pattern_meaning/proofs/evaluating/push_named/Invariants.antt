@@ -1,5 +1,5 @@
 use Rattle.std.proofs.Common.{◌≡◌, ◌++◌, drop}
-use Rattle.pattern_meaning.specs.Rounds.{of_name}
+use Rattle.pattern_meaning.specs.Found.{of_name}
 use Rattle.pattern_meaning.proofs.evaluating.push_named.Given as goal
 
 -- the detections so far and those that are left are all

@@ -12,6 +12,7 @@ use Rattle.ordered_lists.specs.Lists.{some_of, Each, flat_map_cut}
 use Rattle.ordered_lists.specs.Canon.{canon, Exact}
 use Rattle.ordered_lists.specs.Members.{canon-map-canon, canon-append-canon_both, canon-append-canon_after, canon-flat_map-canon}
 use Rattle.ev_term.specs.Spans.{PlainSpan}
+use Rattle.ev_term.specs.Events.{span_of}
 use Rattle.ev_term.specs.declared.events.Event.{Event}
 use Rattle.ev_term.specs.EventOrder.{detection_cmp, exact_detections}
 use Rattle.ev_term.specs.declared.terms.Term.{Term}
@@ -28,18 +29,19 @@ use Rattle.rule_check.specs.Sound.{rules_of}
 use Rattle.rule_check.specs.Names.{outputs}
 use Rattle.rule_check.specs.Graphs.{greatest}
 use Rattle.rule_check.specs.Cycles.{IsRanking, rank_of, rank_most}
-use Rattle.pattern_meaning.specs.PatternRows.{rows_of, numbered, found, args_of, matched, spanned, instant, name_of, is_of, events_of, head_row}
+use Rattle.pattern_meaning.proofs.Eachs.{each, Each-more}
+use Rattle.pattern_meaning.specs.PatternRows.{rows_of, numbered, found, args_of, matched, spanned, name_of, is_of, events_of, head_row}
 use Rattle.pattern_meaning.specs.Standing.{detection_of, standing}
 use Rattle.pattern_meaning.specs.RuleRows.{rows, has_head, head_rows, named_rows, name_rows}
 use Rattle.pattern_meaning.specs.Depths.{named_same}
-use Rattle.pattern_meaning.specs.Rounds.{of_name, found_row, named_in, matched_rows, head_detection, as_detection, rule_detections, statement_detections, rounds}
+use Rattle.pattern_meaning.specs.Found.{of_name, found_row, named_in, matched_rows, head_detection, as_detection}
 
 numbered-args : (k : ℕ) (ts : List Term) → map (λ p. p.1) (numbered k ts) ≡ ts
 numbered-args k [] = refl
 numbered-args k (t ∷ ts) = ap (λ l. t ∷ l) (numbered-args (suc k) ts)
 
 -- a row of a name keeps its arguments
-args_of-found : (ts : List Term) (span : PlainSpan) → args_of (found ts span) ≡ ts
+pub args_of-found : (ts : List Term) (span : PlainSpan) → args_of (found ts span) ≡ ts
 args_of-found ts span = numbered-args 0 ts
 
 map-append : {A B : Type 0} (f : A → B) (xs ys : List A) → map f (xs ++ ys) ≡ map f xs ++ map f ys
@@ -76,10 +78,6 @@ keeps p d own = at (bytes_eq p.name d.atom.name) refl own
     at false n h = absurd (true≢false (sym h))
     at true n h = ap (λ ts. some_of (spanned (Some d.span) (match_of_args p.args ts))) (sym (args_of-found d.atom.args d.span))
 
-each : {A : Type 0} (xs : List A) → Each (λ _. Unit {0}) xs
-each [] = tt
-each (x ∷ xs) = (tt, each xs)
-
 pub atom_rows_are : (p : PatAtom) (ds : List Detection) → rows_of (flat_map (matched_rows p) ds) ≡ rows_of (flat_map (matched p) (named_in ds (name_of p)))
 atom_rows_are p ds =
     ap rows_of (flat_map_cut (λ _. Unit {0}) (λ d. is_of (name_of p) d.atom) (matched_rows p) (λ d. matched p (found_row d)) (λ d _ h. skips p d h) (λ d _ h. keeps p d h) ds (each ds)
@@ -88,20 +86,20 @@ atom_rows_are p ds =
 
 -- ---- the rounds find the rows of names
 
-events_are : (n : NameArity) (es : List Event) → map found_row (of_name n (map as_detection es)) ≡ events_of es n
+pub events_are : (n : NameArity) (es : List Event) → map found_row (of_name n (map as_detection es)) ≡ events_of es n
 events_are n [] = refl
 events_are n (e ∷ es) = at (is_of n e.atom) (events_are n es)
   where
     at : (b : Bool) → map found_row (of_name n (map as_detection es)) ≡ events_of es n
         → map found_row (cond b (as_detection e ∷ of_name n (map as_detection es)) (of_name n (map as_detection es)))
-        ≡ map (λ e. found e.atom.args (instant e.time)) (cond b (e ∷ filter (λ e. is_of n e.atom) es) (filter (λ e. is_of n e.atom) es))
-    at true h = ap (λ l. found e.atom.args (instant e.time) ∷ l) h
+        ≡ map (λ e. found e.atom.args (span_of e)) (cond b (e ∷ filter (λ e. is_of n e.atom) es) (filter (λ e. is_of n e.atom) es))
+    at true h = ap (λ l. found e.atom.args (span_of e) ∷ l) h
     at false h = h
 
 is_head : (n : NameArity) (r : PlainRule) (x : Row) → is_of n (head_detection r.head x).atom ≡ has_head n r
 is_head n r x = ap (λ k. bytes_eq n.name r.head.name && (n.arity == k)) (length-map r.head.args (λ p. instance p x.binding))
 
-heads_of : (n : NameArity) (r : PlainRule) (b : Bool) → has_head n r ≡ b → (xs : List Row) → map found_row (of_name n (map (head_detection r.head) xs)) ≡ cond b (map (head_row r.head) xs) []
+pub heads_of : (n : NameArity) (r : PlainRule) (b : Bool) → has_head n r ≡ b → (xs : List Row) → map found_row (of_name n (map (head_detection r.head) xs)) ≡ cond b (map (head_row r.head) xs) []
 heads_of n r true e [] = refl
 heads_of n r false e [] = refl
 heads_of n r true e (x ∷ xs) =
@@ -111,40 +109,8 @@ heads_of n r false e (x ∷ xs) =
     ap (λ t. map found_row (cond t (head_detection r.head x ∷ of_name n (map (head_detection r.head) xs)) (of_name n (map (head_detection r.head) xs)))) (is_head n r x ∙ e)
     ∙ heads_of n r false e xs
 
-rows_in_both : (n : NameArity) (xs ys : List Detection) → map found_row (of_name n (xs ++ ys)) ≡ map found_row (of_name n xs) ++ map found_row (of_name n ys)
+pub rows_in_both : (n : NameArity) (xs ys : List Detection) → map found_row (of_name n (xs ++ ys)) ≡ map found_row (of_name n xs) ++ map found_row (of_name n ys)
 rows_in_both n xs ys = ap (map found_row) (filter-append (λ d. is_of n d.atom) xs ys) ∙ map-append found_row (of_name n xs) (of_name n ys)
-
-one_rule_more : (n : NameArity) (ds : List Detection) (r : PlainRule) (rules : List PlainRule) (rest : List Row) (b : Bool) → has_head n r ≡ b
-    → rows_of rest ≡ rows_of (flat_map (head_rows (named_in ds)) (filter (has_head n) rules))
-    → rows_of (map found_row (of_name n (rule_detections ds r)) ++ rest) ≡ rows_of (flat_map (head_rows (named_in ds)) (cond b (r ∷ filter (has_head n) rules) (filter (has_head n) rules)))
-one_rule_more n ds r rules rest true e h =
-    let own : List Row = map (head_row r.head) (rows (named_in ds) r.body) in
-    ap (λ l. rows_of (l ++ rest)) (heads_of n r true e (rows (named_in ds) r.body))
-    ∙ sym (canon-append-canon_both exact_rows own rest)
-    ∙ ap (λ l. rows_of (rows_of own ++ l)) h
-    ∙ canon-append-canon_after exact_rows (rows_of own) (flat_map (head_rows (named_in ds)) (filter (has_head n) rules))
-one_rule_more n ds r rules rest false e h = ap (λ l. rows_of (l ++ rest)) (heads_of n r false e (rows (named_in ds) r.body)) ∙ h
-
-heads_are : (n : NameArity) (ds : List Detection) (statements : List PlainStatement)
-    → rows_of (map found_row (of_name n (flat_map (statement_detections ds) statements))) ≡ rows_of (flat_map (head_rows (named_in ds)) (filter (has_head n) (rules_of statements)))
-heads_are n ds [] = refl
-heads_are n ds (Show names ∷ statements) = heads_are n ds statements
-heads_are n ds (Clause r ∷ statements) =
-    ap rows_of (rows_in_both n (rule_detections ds r) (flat_map (statement_detections ds) statements))
-    ∙ one_rule_more n ds r (rules_of statements) (map found_row (of_name n (flat_map (statement_detections ds) statements))) (has_head n r) refl (heads_are n ds statements)
-
--- what the rounds to a depth find of a name is what its rules to that depth give
-pub rounds_are : (statements : List PlainStatement) (events : List Event) (k : ℕ) (n : NameArity) → named_in (rounds statements events k) n ≡ named_rows (rules_of statements) events k n
-rounds_are statements events zero n = ap rows_of (events_are n events)
-rounds_are statements events (suc k) n =
-    let before = rounds statements events k in
-    let heads = flat_map (statement_detections before) statements in
-    let rules = filter (has_head n) (rules_of statements) in
-    ap rows_of (rows_in_both n (map as_detection events) heads ∙ ap (λ l. l ++ map found_row (of_name n heads)) (events_are n events))
-    ∙ sym (canon-append-canon_both exact_rows (events_of events n) (map found_row (of_name n heads)))
-    ∙ ap (λ l. rows_of (rows_of (events_of events n) ++ l)) (heads_are n before statements)
-    ∙ canon-append-canon_after exact_rows (rows_of (events_of events n)) (flat_map (head_rows (named_in before)) rules)
-    ∙ (λ i. rows_of (rows_of (events_of events n) ++ flat_map (head_rows (λ m. rounds_are statements events k m i)) rules))
 
 -- ---- what stands
 
@@ -159,34 +125,14 @@ own_again n (d ∷ ds) = at (is_of n d.atom) refl (own_again n ds)
         let parts = and_parts (bytes_eq n.name d.atom.name) (n.arity == length d.atom.args) e in
         λ i. record { atom = record { name = (bytes_eq-Decides n.name d.atom.name).0 parts.0 i; args = args_of-found d.atom.args d.span i }; span = d.span } ∷ h i
 
-named_detections : (n : NameArity) (ds : List Detection) (rs : List Row) → named_in ds n ≡ rs → canon detection_cmp (of_name n ds) ≡ canon detection_cmp (map (detection_of n) rs)
+pub named_detections : (n : NameArity) (ds : List Detection) (rs : List Row) → named_in ds n ≡ rs → canon detection_cmp (of_name n ds) ≡ canon detection_cmp (map (detection_of n) rs)
 named_detections n ds rs e =
     ap (canon detection_cmp) (sym (own_again n ds))
     ∙ sym (canon-map-canon exact_detections exact_rows (detection_of n) (map found_row (of_name n ds)))
     ∙ ap (λ l. canon detection_cmp (map (detection_of n) l)) e
 
-parts_alike : {A K : Type 0} {R : K → K → Ordering} (o : Exact R) (f g : A → List K) (xs : List A) → Each (λ x. canon R (f x) ≡ canon R (g x)) xs → canon R (flat_map f xs) ≡ canon R (flat_map g xs)
+pub parts_alike : {A K : Type 0} {R : K → K → Ordering} (o : Exact R) (f g : A → List K) (xs : List A) → Each (λ x. canon R (f x) ≡ canon R (g x)) xs → canon R (flat_map f xs) ≡ canon R (flat_map g xs)
 parts_alike o f g [] a = refl
 parts_alike {R = R} o f g (x ∷ xs) a =
     let rest = parts_alike o f g xs a.1 in
     sym (canon-append-canon_both o (f x) (flat_map f xs)) ∙ (λ i. canon R (a.0 i ++ rest i)) ∙ canon-append-canon_both o (g x) (flat_map g xs)
-
-Each-more : {A : Type 0} (P Q : A → Type 0) → ((x : A) → P x → Q x) → (xs : List A) → Each P xs → Each Q xs
-Each-more P Q f [] a = tt
-Each-more P Q f (x ∷ xs) a = (f x a.0, Each-more P Q f xs a.1)
-
-each_most : (rank : NameArity → ℕ) (k : ℕ) (names : List NameArity) → greatest (map rank names) ≤ k → Each (λ n. rank n ≤ k) names
-each_most rank k [] h = tt
-each_most rank k (n ∷ names) h = (omega (arith, h), each_most rank k names (omega (arith, h)))
-
-pub found_is_standing : (statements : List PlainStatement) (events : List Event) (k : ℕ) (ds collected sorted : List Detection) (names : List NameArity) → IsRanking (rules_of statements) (rank_of (rules_of statements))
-    → k ≡ greatest (map (rank_of (rules_of statements)) (outputs statements)) → ds ≡ rounds statements events k → names ≡ outputs statements
-    → collected ≡ flat_map (λ n. of_name n ds) names → sorted ≡ canon detection_cmp collected → sorted ≡ standing statements events
-unfolding standing
-found_is_standing statements events k ds collected sorted names ranking d f m c s =
-    let rules = rules_of statements in
-    s ∙ ap (canon detection_cmp) (c ∙ (λ i. flat_map (λ n. of_name n (f i)) (m i)))
-    ∙ parts_alike exact_detections (λ n. of_name n (rounds statements events k)) (λ n. map (detection_of n) (name_rows rules events n)) (outputs statements)
-    (Each-more (λ n. rank_of rules n ≤ k) _
-    (λ n h. named_detections n (rounds statements events k) (name_rows rules events n) (rounds_are statements events k n ∙ named_same rules events (rank_of rules) ranking k (length rules) n h (rank_most rules n)))
-    (outputs statements) (each_most (rank_of rules) k (outputs statements) (omega (arith, d))))

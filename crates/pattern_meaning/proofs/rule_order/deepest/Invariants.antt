@@ -4,7 +4,7 @@ use Rattle.rule_check.specs.Cycles.{rank_of}
 use Rattle.rule_check.specs.Graphs.{greatest}
 use Rattle.rule_check.specs.Names.{outputs}
 use Rattle.rule_check.specs.Sound.{rules_of}
-use Rattle.pattern_meaning.proofs.evaluating.deepest.Given as goal
+use Rattle.pattern_meaning.proofs.rule_order.deepest.Given as goal
 
 -- the greatest so far and that of those that are left
 abbrev pub invariant-loop-name : goal.invariant-loop-name

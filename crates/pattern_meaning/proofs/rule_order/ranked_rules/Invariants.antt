@@ -1,0 +1,15 @@
+use Rattle.std.proofs.Common.{◌≡◌, ◌++◌, true, drop, map}
+use Rattle.std.specs.List.{list_all}
+use Rattle.rule_ast.specs.Plain.{plain_rules, plain_statement}
+use Rattle.rule_ast.specs.Shaped.{is_shaped_statement}
+use Rattle.rule_check.specs.Sound.{rules_of}
+use Rattle.pattern_meaning.specs.RuleOrder.{ranked_by, ranked_at}
+use Rattle.pattern_meaning.proofs.rule_order.ranked_rules.Given as goal
+
+-- the rules so far and those that are left are all, and the statements that are left are shaped
+abbrev pub invariant-loop-statement : goal.invariant-loop-statement
+invariant-loop-statement l =
+    let rules = rules_of (plain_rules l.checked) in
+    let left = map plain_statement (drop l.statement-index l.statement-items) in
+    (ranked_at l.ranked.items ++ map (ranked_by rules) (rules_of left) ≡ map (ranked_by rules) rules)
+    × (list_all is_shaped_statement left ≡ true)

@@ -1,0 +1,77 @@
+-- What the plain evaluator of rules finds: detections, by the words of their atoms.
+use Rattle.std.specs.Prelude.{ℕ, zero, suc, ◌==◌, Bool, cond, Some, List, [], ◌∷◌, ◌++◌, map}
+use Rattle.std.specs.List.{filter}
+use Rattle.std.specs.Str.{bytes_eq}
+use Rattle.ordered_lists.specs.Lists.{some_of}
+use Rattle.ev_term.specs.Events.{span_of}
+use Rattle.ev_term.specs.declared.events.Event.{Event}
+use Rattle.ev_term.specs.declared.atoms.PatAtom.{PatAtom}
+use Rattle.ev_term.specs.declared.atoms.NameArity.{NameArity}
+use Rattle.ev_term.specs.declared.events.Detection.{Detection}
+use Rattle.ev_bind.specs.Matching.{match_of, instance}
+use Rattle.ev_bind.specs.declared.rows.Row.{Row}
+use Rattle.rule_ast.specs.Trees.{PlainRule}
+use Rattle.rule_check.specs.Names.{head_name}
+use Rattle.rule_check.specs.Cycles.{rank_of}
+use Rattle.pattern_meaning.specs.PatternRows.{rows_of, spanned, found, is_of}
+use Rattle.pattern_meaning.specs.RuleRows.{rows}
+
+-- ---- detections of a name
+
+-- those of a name
+abbrev pub of_name : NameArity → List Detection → List Detection
+of_name n ds = filter (λ d. is_of n d.atom) ds
+
+abbrev pub found_row : Detection → Row
+found_row d = found d.atom.args d.span
+
+-- the rows of a name that detections are
+abbrev pub named_in : List Detection → NameArity → List Row
+named_in ds n = rows_of (map found_row (of_name n ds))
+
+-- the row of an atom of a rule, where a detection matches it
+abbrev pub matched_rows : PatAtom → Detection → List Row
+matched_rows p d = some_of (spanned (Some d.span) (match_of p d.atom))
+
+-- the instance of a head under a row
+abbrev pub head_detection : PatAtom → Row → Detection
+head_detection head r = record { atom = record { name = head.name; args = map (λ p. instance p r.binding) head.args }; span = r.span }
+
+abbrev pub as_detection : Event → Detection
+as_detection e = record { atom = e.atom; span = span_of e }
+
+-- ---- what was found, word by word
+
+abbrev pub Words : Type 0
+Words = List ℕ → List Detection
+
+-- the rows of a name
+abbrev pub named_by : Words → NameArity → List Row
+named_by words n = named_in (words n.name) n
+
+-- one detection more
+abbrev pub with_one : Words → Detection → Words
+with_one words d word = cond (bytes_eq d.atom.name word) (words word ++ d ∷ []) (words word)
+
+abbrev pub with_all : Words → List Detection → Words
+with_all words [] = words
+with_all words (d ∷ ds) = with_all (with_one words d) ds
+
+-- the head instances that a rule gives
+abbrev pub rule_detections : Words → PlainRule → List Detection
+rule_detections words r = map (head_detection r.head) (rows (named_by words) r.body)
+
+-- after one rule and the next
+abbrev pub with_rules : Words → List PlainRule → Words
+with_rules words [] = words
+with_rules words (r ∷ rules) = with_rules (with_all words (rule_detections words r)) rules
+
+-- ---- the order of rules
+
+abbrev pub has_rank : List PlainRule → ℕ → PlainRule → Bool
+has_rank rules rank r = rank_of rules (head_name r) == rank
+
+-- those of which the head has at most this rank, by rank
+abbrev pub by_rank : List PlainRule → ℕ → List PlainRule
+by_rank rules zero = []
+by_rank rules (suc k) = by_rank rules k ++ filter (has_rank rules (suc k)) rules
