@@ -1,2 +1,3 @@
 pub mod RoundLaws
 pub mod ClimbingLaws
+pub mod RefusalLaws

@@ -12,6 +12,7 @@ use Rattle.ordered_lists.specs.Lists.{some_of, Each, flat_map_cut}
 use Rattle.ordered_lists.specs.Canon.{canon, Exact}
 use Rattle.ordered_lists.specs.Members.{canon-map-canon, canon-append-canon_both, canon-append-canon_after, canon-flat_map-canon}
 use Rattle.ev_term.specs.Spans.{PlainSpan}
+use Rattle.ev_term.specs.Events.{span_of}
 use Rattle.ev_term.specs.declared.events.Event.{Event}
 use Rattle.ev_term.specs.EventOrder.{detection_cmp, exact_detections}
 use Rattle.ev_term.specs.declared.terms.Term.{Term}
@@ -28,7 +29,7 @@ use Rattle.rule_check.specs.Sound.{rules_of}
 use Rattle.rule_check.specs.Names.{outputs}
 use Rattle.rule_check.specs.Graphs.{greatest}
 use Rattle.rule_check.specs.Cycles.{IsRanking, rank_of, rank_most}
-use Rattle.pattern_meaning.specs.PatternRows.{rows_of, numbered, found, args_of, matched, spanned, instant, name_of, is_of, events_of, head_row}
+use Rattle.pattern_meaning.specs.PatternRows.{rows_of, numbered, found, args_of, matched, spanned, name_of, is_of, events_of, head_row}
 use Rattle.pattern_meaning.specs.Standing.{detection_of, standing}
 use Rattle.pattern_meaning.specs.RuleRows.{rows, has_head, head_rows, named_rows, name_rows}
 use Rattle.pattern_meaning.specs.Depths.{named_same}
@@ -94,8 +95,8 @@ events_are n (e ∷ es) = at (is_of n e.atom) (events_are n es)
   where
     at : (b : Bool) → map found_row (of_name n (map as_detection es)) ≡ events_of es n
         → map found_row (cond b (as_detection e ∷ of_name n (map as_detection es)) (of_name n (map as_detection es)))
-        ≡ map (λ e. found e.atom.args (instant e.time)) (cond b (e ∷ filter (λ e. is_of n e.atom) es) (filter (λ e. is_of n e.atom) es))
-    at true h = ap (λ l. found e.atom.args (instant e.time) ∷ l) h
+        ≡ map (λ e. found e.atom.args (span_of e)) (cond b (e ∷ filter (λ e. is_of n e.atom) es) (filter (λ e. is_of n e.atom) es))
+    at true h = ap (λ l. found e.atom.args (span_of e) ∷ l) h
     at false h = h
 
 is_head : (n : NameArity) (r : PlainRule) (x : Row) → is_of n (head_detection r.head x).atom ≡ has_head n r

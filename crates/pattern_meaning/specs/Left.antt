@@ -1,15 +1,15 @@
 -- What the replies to lines leave: a table of detections that each reply changes.
-use Rattle.std.specs.Prelude.{ℕ, zero, suc, ◌+◌, ◌-◌, nat_lt, Option, ◌≡◌, refl, Bool, true, false, not, ◌&&◌, ◌||◌, List, [], ◌∷◌, ◌++◌, map, length}
+use Rattle.std.specs.Prelude.{ℕ, zero, suc, ◌+◌, ◌-◌, nat_lt, Option, Some, None, ◌≡◌, refl, Bool, true, false, cond, not, ◌&&◌, ◌||◌, ◌⊎◌, List, [], ◌∷◌, ◌++◌, map, length}
 use Rattle.std.specs.List.{filter, flat_map}
-use Rattle.std.proofs.Common.{ap, sym, ◌∙◌, subst, append-nil}
+use Rattle.std.proofs.Common.{ap, sym, ◌∙◌, subst, append-nil, inl, inr}
+use Rattle.std.proofs.lemmas.Bool.{true≢false}
 use Rattle.std.proofs.lemmas.List.Concat.{flat_map-append}
 use Rattle.ordered_lists.specs.Canon.{canon, has, Rising, Rising-canon, has-canon, has-append, canon_one}
 use Rattle.ordered_lists.specs.Members.{without, has-without}
-use Rattle.ev_term.specs.EventOrder.{detection_cmp, exact_detections}
-use Rattle.ev_term.specs.EventOrder.{event_cmp}
-use Rattle.ev_term.specs.Presence.{Said, Verdict, Taken, Refused, verdict, after_verdict, added, taken, occurrences, present}
+use Rattle.ev_term.specs.EventOrder.{event_cmp, detection_cmp, exact_detections}
+use Rattle.ev_term.specs.Presence.{History, Said, Verdict, Accepted, Refused, verdict, after_verdict, settled, in_batch, with_input, extended, settles, added, taken, occurrences, present}
 use Rattle.ev_term.specs.declared.inputs.Input.{Input}
-use Rattle.ev_term.specs.declared.inputs.Input.TheVariants.{Add, Take, Advance, Nothing}
+use Rattle.ev_term.specs.declared.inputs.Input.TheVariants.{Add, Take, Advance, Nothing, Begin, Commit}
 use Rattle.ev_term.specs.declared.atoms.NameArity.{NameArity}
 use Rattle.ev_term.specs.declared.events.Detection.{Detection}
 use Rattle.ev_bind.specs.declared.rows.Row.{Row}
@@ -20,7 +20,33 @@ use Rattle.term_eval.specs.Values.{holds}
 use Rattle.pattern_meaning.specs.PatternRows.{rows_of, matched, name_of, head_row}
 use Rattle.pattern_meaning.specs.RuleRows.{is_long, is_short, remaining, joined_rows, rows, has_head, head_rows, named_rows, name_rows}
 use Rattle.pattern_meaning.specs.Standing.{detection_of, standing}
-use Rattle.pattern_meaning.specs.Replies.{Change, change_between, changed, Reply, Silent, Refusing, Changing, reply, reply_to_input, reply_to_said, left_by, left_of, State, start, after_said, after_all, replies_to, IsDifference}
+use Rattle.pattern_meaning.specs.Replies.{Change, change_between, change_by, standing_after, changed, Reply, Silent, Refusing, Changing, is_told, reply, reply_to_input, reply_to_said, left_by, left_of, State, start, after_said, after_all, replies_to, IsDifference}
+
+-- ---- what is said of replies
+
+-- what the replies to these lines leave of no detections is what stands after them
+abbrev pub LeaveWhatStands : List PlainStatement → Option ℕ → List Said → Type 0
+LeaveWhatStands statements late saids =
+    let s = start statements late in left_of [] (replies_to s saids) ≡ standing_after statements (after_all s saids).history
+
+-- a change that the reply to one line after these writes is the difference between what stands before that line and after it
+abbrev pub WritesDifference : List PlainStatement → Option ℕ → List Said → Said → Type 0
+WritesDifference statements late saids said =
+    let before = after_all (start statements late) saids in
+    let after = after_said before said in
+    (n : ℕ)
+    → (c : Change)
+    → reply_to_said before said ≡ Changing n c
+    → IsDifference (standing_after statements before.history) (standing_after statements after.history) c
+
+-- an input that begins a batch, or stands in one and doesn't end it
+abbrev pub IsWithheld : History → Input → Type 0
+IsWithheld h input = (input ≡ Begin) ⊎ ((in_batch h ≡ true) × (input ≡ Commit → ⊥))
+
+-- the input has no reply where it is accepted, and the events that are present by the groups stay
+abbrev pub IsQuiet : List PlainStatement → History → ℕ → Input → Type 0
+IsQuiet statements h n input =
+    (reply_to_input statements h n input ≡ Silent) × (present (settled (extended h input)) ≡ present (settled h))
 
 -- ---- laws
 
@@ -30,48 +56,81 @@ after_both true false = refl
 after_both false true = refl
 after_both false false = refl
 
-rising_standing : (statements : List PlainStatement) (history : List Input) → Rising detection_cmp (standing statements (present history))
+rising_standing : (statements : List PlainStatement) (h : History) → Rising detection_cmp (standing_after statements h)
 unfolding standing
-rising_standing statements history = Rising-canon exact_detections (flat_map (λ n. map (detection_of n) (name_rows (rules_of statements) (present history) n)) (outputs statements))
+rising_standing statements h =
+    let rows = name_rows (rules_of statements) (present (settled h)) in
+    Rising-canon exact_detections (flat_map (λ n. map (detection_of n) (rows n)) (outputs statements))
 
 -- the change between two tables makes the one of the other
 pub changed_is : (before after : List Detection) → Rising detection_cmp after → changed before (change_between before after) ≡ after
 changed_is before after h =
     let gone = without detection_cmp before after in
     let come = without detection_cmp after before in
-    canon_one exact_detections (canon detection_cmp (without detection_cmp before gone ++ come)) after (Rising-canon exact_detections (without detection_cmp before gone ++ come)) h
-    (λ q. has-canon exact_detections q (without detection_cmp before gone ++ come)
-    ∙ has-append exact_detections q (without detection_cmp before gone) come
+    let kept = without detection_cmp before gone in
+    canon_one exact_detections (canon detection_cmp (kept ++ come)) after (Rising-canon exact_detections (kept ++ come)) h
+    (λ q. has-canon exact_detections q (kept ++ come)
+    ∙ has-append exact_detections q kept come
     ∙ (λ i. has-without exact_detections q before gone i || has-without exact_detections q after before i)
-    ∙ ap (λ b. (has detection_cmp q before && not b) || (has detection_cmp q after && not (has detection_cmp q before))) (has-without exact_detections q before after)
+    ∙ ap (λ b. (has detection_cmp q before && not b) || (has detection_cmp q after && not (has detection_cmp q before)))
+    (has-without exact_detections q before after)
     ∙ after_both (has detection_cmp q before) (has detection_cmp q after))
 
-after_nothing : (history : List Input) → present (history ++ Nothing ∷ []) ≡ present history
-after_nothing history = λ i. filter (λ e. nat_lt 0 (occurrences e (additions i) - occurrences e (takings i))) (canon event_cmp (additions i))
+-- an input that says nothing changes no event
+after_nothing : (inputs : List Input) → present (inputs ++ Nothing ∷ []) ≡ present inputs
+after_nothing inputs = λ i. filter (λ e. nat_lt 0 (occurrences e (additions i) - occurrences e (takings i))) (canon event_cmp (additions i))
   where
-    additions : flat_map added (history ++ Nothing ∷ []) ≡ flat_map added history
-    additions = flat_map-append added history (Nothing ∷ []) ∙ append-nil (flat_map added history)
+    additions : flat_map added (inputs ++ Nothing ∷ []) ≡ flat_map added inputs
+    additions = flat_map-append added inputs (Nothing ∷ []) ∙ append-nil (flat_map added inputs)
 
-    takings : flat_map taken (history ++ Nothing ∷ []) ≡ flat_map taken history
-    takings = flat_map-append taken history (Nothing ∷ []) ∙ append-nil (flat_map taken history)
+    takings : flat_map taken (inputs ++ Nothing ∷ []) ≡ flat_map taken inputs
+    takings = flat_map-append taken inputs (Nothing ∷ []) ∙ append-nil (flat_map taken inputs)
+
+abbrev parts : List (List Input) → Option (List Input) → History
+parts groups batch = record { groups = groups; batch = batch }
+
+-- what has no reply changes no event
+untold : (groups : List (List Input)) (batch : Option (List Input)) (input : Input)
+    → is_told (parts groups batch) input ≡ false
+    → present (settled (extended (parts groups batch) input)) ≡ present (settled (parts groups batch))
+untold groups None (Add e) t = absurd (true≢false t)
+untold groups (Some group) (Add e) t = refl
+untold groups None (Take e) t = absurd (true≢false t)
+untold groups (Some group) (Take e) t = refl
+untold groups None (Advance time) t = absurd (true≢false t)
+untold groups (Some group) (Advance time) t = refl
+untold groups None Nothing t =
+    let all = flat_map (λ (group : List Input). group) groups in
+    ap present (flat_map-append (λ (group : List Input). group) groups ((Nothing ∷ []) ∷ [])) ∙ after_nothing all
+untold groups (Some group) Nothing t = refl
+untold groups batch Begin t = refl
+untold groups batch Commit t = absurd (true≢false t)
 
 -- what the reply to an input leaves of what stood
-left_by_input : (statements : List PlainStatement) (history : List Input) (n : ℕ) (input : Input)
-    → left_by (standing statements (present history)) (reply_to_input statements history n input) ≡ standing statements (present (history ++ input ∷ []))
-left_by_input statements history n (Add e) = changed_is (standing statements (present history)) (standing statements (present (history ++ Add e ∷ []))) (rising_standing statements (history ++ Add e ∷ []))
-left_by_input statements history n (Take e) = changed_is (standing statements (present history)) (standing statements (present (history ++ Take e ∷ []))) (rising_standing statements (history ++ Take e ∷ []))
-left_by_input statements history n (Advance t) = changed_is (standing statements (present history)) (standing statements (present (history ++ Advance t ∷ []))) (rising_standing statements (history ++ Advance t ∷ []))
-left_by_input statements history n Nothing = ap (standing statements) (sym (after_nothing history))
+left_by_input : (statements : List PlainStatement) (h : History) (n : ℕ) (input : Input)
+    → left_by (standing_after statements h) (reply_to_input statements h n input) ≡ standing_after statements (extended h input)
+left_by_input statements h n input = at (is_told h input) refl
+  where
+    at : (b : Bool) → is_told h input ≡ b
+        → left_by (standing_after statements h) (cond b (Changing n (change_by statements h input)) Silent)
+        ≡ standing_after statements (extended h input)
+    at true t =
+        let after = standing_after statements (extended h input) in
+        changed_is (standing_after statements h) after (rising_standing statements (extended h input))
+    at false t = ap (standing statements) (sym (untold h.groups h.batch input t))
 
-left_by_verdict : (statements : List PlainStatement) (history : List Input) (n : ℕ) (v : Verdict)
-    → left_by (standing statements (present history)) (reply statements history n v) ≡ standing statements (present (after_verdict history v))
-left_by_verdict statements history n (Taken input) = left_by_input statements history n input
-left_by_verdict statements history n (Refused why) = refl
+left_by_verdict : (statements : List PlainStatement) (h : History) (n : ℕ) (v : Verdict)
+    → left_by (standing_after statements h) (reply statements h n v) ≡ standing_after statements (after_verdict h v)
+left_by_verdict statements h n (Accepted input) = left_by_input statements h n input
+left_by_verdict statements h n (Refused why) = refl
 
-left_after : (s : State) (saids : List Said) → left_of (standing s.rules (present s.history)) (replies_to s saids) ≡ standing s.rules (present (after_all s saids).history)
+left_after : (s : State) (saids : List Said)
+    → left_of (standing_after s.rules s.history) (replies_to s saids) ≡ standing_after s.rules (after_all s saids).history
 left_after s [] = refl
 left_after s (said ∷ saids) =
-    ap (λ table. left_of table (replies_to (after_said s said) saids)) (left_by_verdict s.rules s.history (s.count + 1) (verdict s.late s.history said)) ∙ left_after (after_said s said) saids
+    ap (λ table. left_of table (replies_to (after_said s said) saids))
+    (left_by_verdict s.rules s.history (s.count + 1) (verdict s.late s.history said))
+    ∙ left_after (after_said s said) saids
 
 -- over no events there are no rows
 no_rows : (named : NameArity → List Row) → ((n : NameArity) → named n ≡ []) → (p : PlainPattern) → rows named p ≡ []
@@ -83,7 +142,8 @@ no_rows named h (Exact p q) = ap (λ l. rows_of (filter (is_long q) l)) (no_rows
 no_rows named h (Within p q) = ap (λ l. rows_of (filter (is_short q) l)) (no_rows named h p)
 no_rows named h (Not i b a) = λ j. remaining (no_rows named h b j) (rows named i) (rows named a)
 
-no_heads : (named : NameArity → List Row) → ((n : NameArity) → named n ≡ []) → (rules : List PlainRule) → flat_map (head_rows named) rules ≡ []
+no_heads : (named : NameArity → List Row) → ((n : NameArity) → named n ≡ []) → (rules : List PlainRule)
+    → flat_map (head_rows named) rules ≡ []
 no_heads named h [] = refl
 no_heads named h (r ∷ rules) = λ i. rows_of (map (head_row r.head) (no_rows named h r.body i)) ++ no_heads named h rules i
 
@@ -101,9 +161,10 @@ nothing_stands statements = ap (canon detection_cmp) (no_detections (rules_of st
 
 -- What the replies to a list of lines leave, each taking its detections away and adding its own, is what stands over the
 -- events that are present after them.
-pub left_is_standing : (statements : List PlainStatement) (late : Option ℕ) (saids : List Said)
-    → left_of [] (replies_to (start statements late) saids) ≡ standing statements (present (after_all (start statements late) saids).history)
-left_is_standing statements late saids = ap (λ table. left_of table (replies_to (start statements late) saids)) (sym (nothing_stands statements)) ∙ left_after (start statements late) saids
+pub left_is_standing : (statements : List PlainStatement) (late : Option ℕ) (saids : List Said) → LeaveWhatStands statements late saids
+left_is_standing statements late saids =
+    ap (λ table. left_of table (replies_to (start statements late) saids)) (sym (nothing_stands statements))
+    ∙ left_after (start statements late) saids
 
 -- ---- what a reply writes
 
@@ -116,17 +177,20 @@ Differs before after Silent = Unit {0}
 Differs before after (Refusing n why) = Unit {0}
 Differs before after (Changing n c) = IsDifference before after c
 
-input_differs : (statements : List PlainStatement) (history : List Input) (n : ℕ) (input : Input)
-    → Differs (standing statements (present history)) (standing statements (present (history ++ input ∷ []))) (reply_to_input statements history n input)
-input_differs statements history n (Add e) = difference (standing statements (present history)) (standing statements (present (history ++ Add e ∷ [])))
-input_differs statements history n (Take e) = difference (standing statements (present history)) (standing statements (present (history ++ Take e ∷ [])))
-input_differs statements history n (Advance t) = difference (standing statements (present history)) (standing statements (present (history ++ Advance t ∷ [])))
-input_differs statements history n Nothing = tt
+input_differs : (statements : List PlainStatement) (h : History) (n : ℕ) (input : Input)
+    → Differs (standing_after statements h) (standing_after statements (extended h input)) (reply_to_input statements h n input)
+input_differs statements h n input = at (is_told h input)
+  where
+    at : (b : Bool)
+        → Differs (standing_after statements h) (standing_after statements (extended h input))
+        (cond b (Changing n (change_by statements h input)) Silent)
+    at true = difference (standing_after statements h) (standing_after statements (extended h input))
+    at false = tt
 
-verdict_differs : (statements : List PlainStatement) (history : List Input) (n : ℕ) (v : Verdict)
-    → Differs (standing statements (present history)) (standing statements (present (after_verdict history v))) (reply statements history n v)
-verdict_differs statements history n (Taken input) = input_differs statements history n input
-verdict_differs statements history n (Refused why) = tt
+verdict_differs : (statements : List PlainStatement) (h : History) (n : ℕ) (v : Verdict)
+    → Differs (standing_after statements h) (standing_after statements (after_verdict h v)) (reply statements h n v)
+verdict_differs statements h n (Accepted input) = input_differs statements h n input
+verdict_differs statements h n (Refused why) = tt
 
 same_rules : (s : State) (saids : List Said) → (after_all s saids).rules ≡ s.rules
 same_rules s [] = refl
@@ -134,12 +198,36 @@ same_rules s (said ∷ saids) = same_rules (after_said s said) saids
 
 -- No reply takes away a detection that doesn't stand before its line or writes one that stands already: it writes just the
 -- differences between what stands before its line and what stands after it.
-pub replies_are_differences : (statements : List PlainStatement) (late : Option ℕ) (saids : List Said) (said : Said) (n : ℕ) (c : Change)
-    → reply_to_said (after_all (start statements late) saids) said ≡ Changing n c
-    → IsDifference (standing statements (present (after_all (start statements late) saids).history)) (standing statements (present (after_said (after_all (start statements late) saids) said).history)) c
+pub replies_are_differences : (statements : List PlainStatement) (late : Option ℕ) (saids : List Said) (said : Said)
+    → WritesDifference statements late saids said
 replies_are_differences statements late saids said n c e =
     let s = after_all (start statements late) saids in
     let after = after_said s said in
-    subst (λ rules. IsDifference (standing rules (present s.history)) (standing rules (present after.history)) c) (same_rules (start statements late) saids)
-    (subst (Differs (standing s.rules (present s.history)) (standing s.rules (present after.history))) e
+    subst (λ rules. IsDifference (standing_after rules s.history) (standing_after rules after.history) c)
+    (same_rules (start statements late) saids)
+    (subst (Differs (standing_after s.rules s.history) (standing_after s.rules after.history)) e
     (verdict_differs s.rules s.history (s.count + 1) (verdict s.late s.history said)))
+
+-- ---- batches
+
+withheld_in_batch : (h : History) (input : Input) → (input ≡ Begin → ⊥) → IsWithheld h input → in_batch h ≡ true
+withheld_in_batch h input other (inl e) = absurd (other e)
+withheld_in_batch h input other (inr w) = w.0
+
+withheld_untold : (h : History) (input : Input) → IsWithheld h input → is_told h input ≡ false
+withheld_untold h (Add e) w = ap (λ b. not b && true) (withheld_in_batch h (Add e) (λ same. cc) w)
+withheld_untold h (Take e) w = ap (λ b. not b && true) (withheld_in_batch h (Take e) (λ same. cc) w)
+withheld_untold h (Advance t) w = ap (λ b. not b && true) (withheld_in_batch h (Advance t) (λ same. cc) w)
+withheld_untold h Nothing w = ap (λ b. not b && false) (withheld_in_batch h Nothing (λ same. cc) w)
+withheld_untold h Begin w = refl
+withheld_untold h Commit (inl e) = cc
+withheld_untold h Commit (inr w) = absurd (w.1 refl)
+
+-- In a batch nothing is told, and nothing changes.
+pub withheld_is_quiet : (statements : List PlainStatement) (h : History) (n : ℕ) (input : Input) → IsWithheld h input
+    → IsQuiet statements h n input
+withheld_is_quiet statements h n input w =
+    let t = withheld_untold h input w in (
+      ap (λ b. cond b (Changing n (change_by statements h input)) Silent) t,
+      untold h.groups h.batch input t,
+    )

@@ -8,3 +8,4 @@ pub mod WorkedRows
 pub mod WorkedVariables
 pub mod Replies
 pub mod Left
+pub mod Refusals

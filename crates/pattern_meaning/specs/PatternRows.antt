@@ -5,6 +5,7 @@ use Rattle.std.specs.Str.{bytes_eq}
 use Rattle.ordered_lists.specs.Lists.{some_of}
 use Rattle.ordered_lists.specs.Canon.{canon}
 use Rattle.ev_term.specs.Spans.{PlainSpan}
+use Rattle.ev_term.specs.Events.{span_of}
 use Rattle.ev_term.specs.declared.events.Event.{Event}
 use Rattle.ev_term.specs.declared.terms.Term.{Term}
 use Rattle.ev_term.specs.declared.atoms.Atom.{Atom}
@@ -50,11 +51,9 @@ name_of p = record { name = p.name; arity = length p.args }
 abbrev pub is_of : NameArity → Atom → Bool
 is_of n a = bytes_eq n.name a.name && (n.arity == length a.args)
 
-abbrev pub instant : ℕ → PlainSpan
-instant time = record { start = time; end = time }
-
+-- the events of a name, each on its span
 abbrev pub events_of : List Event → NameArity → List Row
-events_of events n = map (λ e. found e.atom.args (instant e.time)) (filter (λ e. is_of n e.atom) events)
+events_of events n = map (λ e. found e.atom.args (span_of e)) (filter (λ e. is_of n e.atom) events)
 
 abbrev pub head_row : PatAtom → Row → Row
 head_row head r = found (map (λ p. instance p r.binding) head.args) r.span

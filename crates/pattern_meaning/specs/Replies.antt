@@ -87,7 +87,8 @@ held_text rows events = codes "held " ++ decimal rows ++ codes " " ++ decimal ev
 -- how many detections were told and withdrawn over a drill, how many visits were made, and the most rows held
 abbrev pub drill_text : (told withdrawn visits held : ℕ) → List ℕ
 drill_text told withdrawn visits held =
-    codes "drill " ++ decimal told ++ codes " " ++ decimal withdrawn ++ codes " " ++ decimal visits ++ codes " " ++ decimal held ++ codes "\n"
+    codes "drill " ++ decimal told ++ codes " " ++ decimal withdrawn ++ codes " " ++ decimal visits ++ codes " "
+    ++ decimal held ++ codes "\n"
 
 -- a change: what goes behind `-`, and then what comes behind `+`
 abbrev pub both_texts : Change → List ℕ

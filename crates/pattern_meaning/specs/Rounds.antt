@@ -2,6 +2,7 @@
 use Rattle.std.specs.Prelude.{ℕ, zero, suc, Some, List, [], ◌++◌, map}
 use Rattle.std.specs.List.{filter, flat_map}
 use Rattle.ordered_lists.specs.Lists.{some_of}
+use Rattle.ev_term.specs.Events.{span_of}
 use Rattle.ev_term.specs.declared.events.Event.{Event}
 use Rattle.ev_term.specs.declared.atoms.PatAtom.{PatAtom}
 use Rattle.ev_term.specs.declared.atoms.NameArity.{NameArity}
@@ -9,7 +10,7 @@ use Rattle.ev_term.specs.declared.events.Detection.{Detection}
 use Rattle.ev_bind.specs.Matching.{match_of, instance}
 use Rattle.ev_bind.specs.declared.rows.Row.{Row}
 use Rattle.rule_ast.specs.Trees.{PlainRule, PlainStatement, Clause, Show}
-use Rattle.pattern_meaning.specs.PatternRows.{rows_of, spanned, found, instant, is_of}
+use Rattle.pattern_meaning.specs.PatternRows.{rows_of, spanned, found, is_of}
 use Rattle.pattern_meaning.specs.RuleRows.{rows}
 
 -- those of a name
@@ -32,7 +33,7 @@ abbrev pub head_detection : PatAtom → Row → Detection
 head_detection head r = record { atom = record { name = head.name; args = map (λ p. instance p r.binding) head.args }; span = r.span }
 
 abbrev pub as_detection : Event → Detection
-as_detection e = record { atom = e.atom; span = instant e.time }
+as_detection e = record { atom = e.atom; span = span_of e }
 
 -- the head instances that a rule gives over what was found
 abbrev pub rule_detections : List Detection → PlainRule → List Detection

@@ -37,7 +37,8 @@ is_short q r = nat_le (ticks r) q
 
 -- the rows of `before SEQ after` that are not rows of `(before SEQ inner) SEQ after`
 abbrev pub remaining : (before inner after : List Row) → List Row
-remaining before inner after = rows_of (without row_cmp (joined_rows Seq before after) (joined_rows Seq (joined_rows Seq before inner) after))
+remaining before inner after =
+    rows_of (without row_cmp (joined_rows Seq before after) (joined_rows Seq (joined_rows Seq before inner) after))
 
 -- the rows of a pattern, where `named n` are the rows of the name n
 abbrev pub rows : (NameArity → List Row) → PlainPattern → List Row
@@ -49,7 +50,7 @@ rows named (Exact of q) = rows_of (filter (is_long q) (rows named of))
 rows named (Within of q) = rows_of (filter (is_short q) (rows named of))
 rows named (Not inner before after) = remaining (rows named before) (rows named inner) (rows named after)
 
--- ---- the rows of a name: its events, as instants, and the head instances of the rows of its rules' bodies
+-- ---- the rows of a name: its events, each on its span, and the head instances of the rows of its rules' bodies
 
 abbrev pub has_head : NameArity → PlainRule → Bool
 has_head n r = bytes_eq n.name r.head.name && (n.arity == length r.head.args)

@@ -18,4 +18,5 @@ detection_of n r = record { atom = record { name = n.name; args = args_of r }; s
 
 -- the rows of the names that are given out, as detections in order, each once
 unfoldable pub standing : List PlainStatement → List Event → List Detection
-standing statements events = canon detection_cmp (flat_map (λ n. map (detection_of n) (name_rows (rules_of statements) events n)) (outputs statements))
+standing statements events =
+    canon detection_cmp (flat_map (λ n. map (detection_of n) (name_rows (rules_of statements) events n)) (outputs statements))

@@ -14,7 +14,7 @@ ghost use Rattle.pattern_meaning.specs.Rounds.{of_name, head_detection, as_detec
 
 use crate::bodies::pattern_rows;
 use ev_bind::{Row, instance_atom};
-use ev_term::{Atom, Detection, Event, NameArity, PatAtom, Span};
+use ev_term::{Atom, Detection, Event, NameArity, PatAtom};
 use ordered_lists::sort_unique;
 use rule_ast::Statement;
 use rule_check::Checked;
@@ -79,15 +79,17 @@ fn find_next(
     Ok(next)
 }
 
-// The events, as detections on instants.
+// The events, as detections on their spans.
 fn own_detections(alloc: Global, events: &[Event]) -> Result<Vec<Detection>, AllocError>
     ensures { IfOk result (λ v. v.items ≡ map as_detection events.now) }
 {
     let mut found = Vec::new(alloc);
     for event in events {
-        let atom = event.atom().share()?;
-        let span = Span::new(event.time(), event.time());
-        found.push(Detection { atom, span })?;
+        let atom = event.atom.share()?;
+        found.push(Detection {
+            atom,
+            span: event.span,
+        })?;
     }
     Ok(found)
 }

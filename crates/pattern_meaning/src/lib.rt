@@ -7,4 +7,4 @@ mod forms;
 mod laws;
 
 pub use evaluating::scratch;
-pub use laws::replies_leave_what_stands;
+pub use laws::{refusals_have_causes, replies_leave_what_stands};
