@@ -15,6 +15,23 @@ enum State {
     Spent,
 }
 
+impl State {
+    ghost use Rattle.std.specs.Prelude.{◌≡◌, false, not};
+    ghost use Rattle.etalis_core.specs.StandsFor.{is_working_state, is_spent_state};
+
+    // In an open batch there is nothing to work on.
+    fn after_input(in_batch: bool) -> State
+        ensures working { is_working_state result ≡ not in_batch }
+        ensures unspent { is_spent_state result ≡ false }
+    {
+        if in_batch {
+            State::Resting
+        } else {
+            State::Working
+        }
+    }
+}
+
 /// Takes inputs one at a time, each by a `begin` and, where the input settles something, by turns until one is `Done`. It tells
 /// then what changed of the detections that stand. An input outside a batch settles itself, and a `Commit` all of its batch. A
 /// call that finds no memory leaves an engine that takes nothing more.
@@ -141,11 +158,7 @@ impl Engine {
         }
         self.state = State::Spent;
         self.ledger.follow(self.late, input)?;
-        self.state = if self.ledger.in_batch() {
-            State::Resting
-        } else {
-            State::Working
-        };
+        self.state = State::after_input(self.ledger.in_batch());
         Ok(())
     }
 
@@ -171,12 +184,7 @@ impl Engine {
             return Err(EngineFault::Spent);
         }
         self.state = State::Spent;
-        if self.ledger.has_changed() {
-            let events = self.ledger.events(self.alloc)?;
-            self.table.renew(self.alloc, &self.rules, &events)?;
-        } else {
-            self.table.rest();
-        }
+        self.table.follow(self.alloc, &self.rules, &self.ledger)?;
         self.ledger.settle();
         self.state = State::Resting;
         Ok(Progress::Done)

@@ -106,12 +106,13 @@ impl Present {
         ensures err_numbers { (e : Event) → OnErr result (number_of self.new e ≡ number_of self.old e) }
         ensures err_changed { OnErr result (self.new.changed.keys ≡ self.old.changed.keys) }
     {
-        self.numbers.insert(event.share()?, 1)?;
-        let flipped = flip(&mut self.changed, &event);
-        if flipped.is_err() {
-            self.numbers.remove(&event);
+        let shared = event.share()?;
+        self.numbers.insert(event, 1)?;
+        if let Err(fault) = flip(&mut self.changed, &shared) {
+            self.numbers.remove(&shared);
+            return Err(fault);
         }
-        flipped
+        Ok(())
     }
 
     // Adds a copy of an event.

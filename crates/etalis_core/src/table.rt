@@ -3,6 +3,7 @@ ghost use Rattle.std.specs.Prelude.{◌≡◌, true, IfOk};
 ghost use Rattle.ordered_lists.specs.Rises.{rises};
 ghost use Rattle.ev_term.specs.EventOrder.{detection_cmp};
 
+use crate::ledger::Ledger;
 use ev_term::{Detection, Event};
 use ordered_lists::push_all_missing;
 use pattern_meaning::scratch;
@@ -29,11 +30,14 @@ fn share(detection: &Detection) -> Result<Detection, AllocError>
 }
 
 impl Table {
-    ghost use Rattle.std.specs.Prelude.{[], OnOk};
+    ghost use Rattle.std.specs.Prelude.{ℕ, Option, List, [], OnOk};
+    ghost use Rattle.ev_term.specs.Presence.{History, all_inputs};
+    ghost use Rattle.ev_term.specs.declared.inputs.Input.{Input};
     ghost use Rattle.rule_ast.specs.Plain.{plain_rules};
     ghost use Rattle.pattern_meaning.specs.Standing.{standing};
     ghost use Rattle.pattern_meaning.specs.Replies.{change_between};
-    ghost use Rattle.etalis_core.specs.StandsFor.{change_of};
+    ghost use Rattle.etalis_core.specs.Kept.{IsLedgerOf};
+    ghost use Rattle.etalis_core.specs.StandsFor.{change_of, IsTableOf};
 
     /// What stands over these events, with no change.
     pub fn new(alloc: Global, rules: &Checked, events: &[Event]) -> Result<Table, AllocError>
@@ -60,8 +64,8 @@ impl Table {
         &self.come
     }
 
-    /// Lets stand what stands.
-    pub fn rest(&mut self)
+    // Lets stand what stands.
+    fn rest(&mut self)
         ensures standing { self.new.standing.items ≡ self.old.standing.items }
         ensures change { change_of self.new ≡ change_between self.old.standing.items self.new.standing.items }
     {
@@ -69,8 +73,8 @@ impl Table {
         self.come.clear();
     }
 
-    /// Finds what stands over these events, and what that changes.
-    pub fn renew(&mut self, alloc: Global, rules: &Checked, events: &[Event]) -> Result<(), AllocError>
+    // Finds what stands over these events, and what that changes.
+    fn renew(&mut self, alloc: Global, rules: &Checked, events: &[Event]) -> Result<(), AllocError>
         ensures standing { OnOk result (self.new.standing.items ≡ standing (plain_rules rules.now) events.now) }
         ensures change { OnOk result (change_of self.new ≡ change_between self.old.standing.items self.new.standing.items) }
     {
@@ -80,6 +84,26 @@ impl Table {
         push_all_missing(&self.standing, &found, &share, &mut self.gone)?;
         push_all_missing(&found, &self.standing, &share, &mut self.come)?;
         self.standing = found;
+        Ok(())
+    }
+
+    /// Goes over from what stands over some events to what stands over those of the ledger. That costs no evaluation where they are
+    /// the same.
+    pub fn follow(
+        &mut self,
+        alloc: Global,
+        rules: &Checked,
+        ledger: &Ledger,
+    ) -> Result<(), AllocError>
+        ensures table { (late : Option ℕ) (told : List Input) (history : History) → IsLedgerOf ledger.now late told history
+            → IsTableOf self.old (plain_rules rules.now) told → OnOk result (IsTableOf self.new (plain_rules rules.now) (all_inputs history)) }
+        ensures change { OnOk result (change_of self.new ≡ change_between self.old.standing.items self.new.standing.items) }
+    {
+        if ledger.has_changed() {
+            let events = ledger.events(alloc)?;
+            return self.renew(alloc, rules, &events);
+        }
+        self.rest();
         Ok(())
     }
 }

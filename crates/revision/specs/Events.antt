@@ -7,6 +7,10 @@ use Rattle.ev_term.specs.declared.events.Event.{Event}
 use Rattle.revision.specs.declared.events.EventChange.{EventChange}
 use Rattle.revision.specs.declared.events.EventChange.TheVariants.{Came, Went}
 
+abbrev pub event_of : EventChange → Event
+event_of (Came e) = e
+event_of (Went e) = e
+
 -- how an event has changed that is in only one of two sets: it came where it's in the second
 abbrev pub event_change : List Event → Event → EventChange
 event_change after e = if has event_cmp e after then Came e else Went e
