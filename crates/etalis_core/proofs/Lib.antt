@@ -1,6 +1,5 @@
 pub mod HistoryLaws
-mod NumberLaws
-mod KeptLaws
-mod TableLaws
-mod SearchedLaws
-mod EngineLaws
+pub mod PresentLaws
+pub mod LedgerLaws
+pub mod TableLaws
+pub mod EngineLaws

@@ -13,7 +13,7 @@ use Rattle.rule_check.specs.Names.{outputs}
 use Rattle.pattern_meaning.specs.RuleRows.{name_rows}
 use Rattle.pattern_meaning.specs.Standing.{standing, detection_of}
 use Rattle.pattern_meaning.specs.Replies.{Change, change_between}
-use Rattle.etalis_core.specs.Rises.{rises, rising_of, of_rising}
+use Rattle.ordered_lists.specs.Rises.{rises, rising_of, of_rising}
 
 rising_standing : (rules : List PlainStatement) (events : List Event) → Rising detection_cmp (standing rules events)
 unfolding standing

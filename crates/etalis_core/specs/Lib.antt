@@ -1,3 +1,2 @@
-pub mod Rises
-pub mod Numbers
+pub mod Kept
 pub mod StandsFor

@@ -1,39 +1,55 @@
 // The engine.
 use crate::faults::{EngineFault, StartFault};
-use crate::judging::{is_below, raised};
-use crate::present::Present;
+use crate::ledger::Ledger;
 use crate::table::Table;
 use ev_term::{Input, Judgement};
 use revision::{Changes, Progress};
 use rule_check::Checked;
 use std::alloc::Global;
 
-// Between inputs; with the bound after the input that was begun, and whether it changed which events are present; or out of
-// memory.
+// Between inputs; with an input that was begun; or out of memory.
 #[derive(Clone, Copy)]
 enum State {
     Resting,
-    Working { bound: u64, changed: bool },
+    Working,
     Spent,
 }
 
-/// Takes inputs one at a time, each by a `begin` and turns until one is `Done`, and tells then what changed of the detections
-/// that stand. A call that finds no memory leaves an engine that takes nothing more.
+impl State {
+    ghost use Rattle.std.specs.Prelude.{◌≡◌, false, not};
+    ghost use Rattle.etalis_core.specs.StandsFor.{is_working_state, is_spent_state};
+
+    // In an open batch there is nothing to work on.
+    fn after_input(in_batch: bool) -> State
+        ensures working { is_working_state result ≡ not in_batch }
+        ensures unspent { is_spent_state result ≡ false }
+    {
+        if in_batch {
+            State::Resting
+        } else {
+            State::Working
+        }
+    }
+}
+
+/// Takes inputs one at a time, each by a `begin` and, where the input settles something, by turns until one is `Done`. It tells
+/// then what changed of the detections that stand. An input outside a batch settles itself, and a `Commit` all of its batch. A
+/// call that finds no memory leaves an engine that takes nothing more.
 #[derive(Drop)]
 pub struct Engine {
     alloc: Global,
     rules: Checked,
     late: Option<u64>,
-    present: Present,
+    ledger: Ledger,
     table: Table,
-    bound: u64,
     state: State,
 }
 
 impl Engine {
-    ghost use Rattle.std.specs.Prelude.{◌≡◌, ◌⊎◌, ◌↔◌, ◌<◌, ◌^◌, ◌++◌, [], ◌∷◌, true, false, List, IfSome, IfOk, OnOk, OnErr, IsErrOf};
-    ghost use Rattle.ev_term.specs.Presence.{bound, judge};
+    ghost use Rattle.std.specs.Prelude.{◌≡◌, ◌⊎◌, ◌↔◌, ◌<◌, [], true, false, IfSome, IfOk, OnOk, OnErr, IsErrOf};
+    ghost use Rattle.ev_term.specs.declared.events.TheConstants.{TIME_LIMIT};
     ghost use Rattle.ev_term.specs.declared.inputs.Input.{Input};
+    ghost use Rattle.ev_term.specs.Presence.{History, no_history, settled, in_batch, extended, settles, bound, judge};
     ghost use Rattle.rule_ast.specs.Plain.{plain_rules};
     ghost use Rattle.pattern_meaning.specs.Replies.{change_by};
     ghost use Rattle.revision.specs.Told.{changes_left, signed};
@@ -43,23 +59,21 @@ impl Engine {
     /// Before the first input. The lateness is how far the time of an event may lie behind the greatest that came; without one
     /// events raise no bound.
     pub fn new(alloc: Global, checked: Checked, late: Option<u64>) -> Result<Engine, StartFault>
-        requires { IfSome late (λ ticks. ticks < 2 ^ 62) }
-        ensures stands { IfOk result (λ engine. StandsFor engine []) }
+        requires { IfSome late (λ ticks. ticks < TIME_LIMIT) }
+        ensures stands { IfOk result (λ engine. StandsFor engine no_history) }
         ensures rules { IfOk result (λ engine. rules_of engine ≡ plain_rules checked) }
         ensures late { IfOk result (λ engine. late_of engine ≡ late) }
         ensures change { IfOk result (λ engine. last_change engine ≡ record { gone = []; come = [] }) }
         ensures resting { IfOk result (λ engine. is_working engine ≡ false) }
         ensures unspent { IfOk result (λ engine. is_spent engine ≡ false) }
     {
-        let present = Present::new(alloc);
-        let table = Table::new(alloc, &checked, present.events())?;
+        let table = Table::new(alloc, &checked, &[])?;
         Ok(Engine {
             alloc,
             rules: checked,
             late,
-            present,
+            ledger: Ledger::new(alloc),
             table,
-            bound: 0,
             state: State::Resting,
         })
     }
@@ -78,21 +92,30 @@ impl Engine {
         self.late
     }
 
-    /// Below which time no event and no `Advance` comes any more.
+    /// Below which time no event and no `Advance` comes any more. An open batch doesn't raise it before its `Commit` is done.
     pub fn bound(&self) -> u64
-        ensures stands { (history : List Input) → StandsFor self.now history → result ≡ bound (late_of self.now) history }
-        ensures works { (history : List Input) → (input : Input) → WorksFrom self.now history input → result ≡ bound (late_of self.now) history }
+        ensures stands { (history : History) → StandsFor self.now history → result ≡ bound (late_of self.now) (settled history) }
+        ensures works { (history : History) (input : Input) → WorksFrom self.now history input
+            → result ≡ bound (late_of self.now) (settled history) }
     {
-        self.bound
+        self.ledger.bound()
     }
 
-    /// Whether an input was begun and isn't done.
+    /// Whether a batch is open.
+    pub fn in_batch(&self) -> bool
+        ensures stands { (history : History) → StandsFor self.now history → result ≡ in_batch history }
+        ensures works { (history : History) (input : Input) → WorksFrom self.now history input → result ≡ false }
+    {
+        self.ledger.in_batch()
+    }
+
+    /// Whether an input was begun that settles something, and isn't done.
     pub fn working(&self) -> bool
         ensures { result ≡ is_working self.now }
     {
         match self.state {
-            State::Working { .. } => true,
-            _ => false,
+            State::Working => true,
+            State::Resting | State::Spent => false,
         }
     }
 
@@ -102,32 +125,30 @@ impl Engine {
     {
         match self.state {
             State::Spent => true,
-            _ => false,
+            State::Resting | State::Working => false,
         }
     }
 
-    /// How an input is judged after those that were taken.
+    /// How an input is judged after those that were accepted: by the bound before an open batch, and by the copies with it.
     pub fn judge(&self, input: &Input) -> Judgement
         requires resting { is_working self.now ≡ false }
         requires unspent { is_spent self.now ≡ false }
-        ensures { (history : List Input) → StandsFor self.now history → result ≡ judge (late_of self.now) history input.now }
+        ensures { (history : History) → StandsFor self.now history → result ≡ judge (late_of self.now) history input.now }
     {
-        if is_below(self.bound, input) {
-            return Judgement::Below { bound: self.bound };
-        }
-        if self.present.is_absent(input) {
-            return Judgement::Absent;
-        }
-        Judgement::Fine
+        self.ledger.judge(input)
     }
 
-    /// Begins the work on an input that is judged `Fine`.
+    /// Begins the work on an input that is judged `Fine`, or accepts it at once where it settles nothing.
     pub fn begin(&mut self, input: Input) -> Result<(), EngineFault>
-        requires { (is_spent self.old ≡ true) ⊎ ((history : List Input) × CanBegin self.old history input) }
-        ensures works { (history : List Input) → StandsFor self.old history → OnOk result (WorksFrom self.new history input) }
+        requires { (is_spent self.old ≡ true) ⊎ ((history : History) × CanBegin self.old history input) }
+        ensures works { (history : History) → StandsFor self.old history → settles history input ≡ true
+            → OnOk result (WorksFrom self.new history input) }
+        ensures stands { (history : History) → StandsFor self.old history → settles history input ≡ false
+            → OnOk result (StandsFor self.new (extended history input)) }
+        ensures working { (history : History) → CanBegin self.old history input → OnOk result (is_working self.new ≡ settles history input) }
+        ensures change { last_change self.new ≡ last_change self.old }
         ensures spent { IsErrOf result EngineFault.Spent ↔ (is_spent self.old ≡ true) }
         ensures ok { OnOk result (is_spent self.new ≡ false) }
-        ensures working { OnOk result (is_working self.new ≡ true) }
         ensures err { OnErr result (is_spent self.new ≡ true) }
         ensures rules { rules_of self.new ≡ rules_of self.old }
         ensures late { late_of self.new ≡ late_of self.old }
@@ -136,20 +157,19 @@ impl Engine {
             return Err(EngineFault::Spent);
         }
         self.state = State::Spent;
-        let bound = self.bound.max(raised(self.late, &input));
-        let changed = self.present.take_input(input)?;
-        self.state = State::Working { bound, changed };
+        self.ledger.follow(self.late, input)?;
+        self.state = State::after_input(self.ledger.in_batch());
         Ok(())
     }
 
     /// Works on the input that was begun, for about so many units, and answers whether it is done.
     pub fn turn(&mut self, _units: u32) -> Result<Progress, EngineFault>
         requires { (is_spent self.old ≡ true) ⊎ (is_working self.old ≡ true) }
-        ensures done { (history : List Input) → (input : Input) → WorksFrom self.old history input
-            → IfOk result (λ p. p ≡ Done → StandsFor self.new (history ++ input ∷ [])) }
-        ensures change { (history : List Input) → (input : Input) → WorksFrom self.old history input
+        ensures done { (history : History) (input : Input) → WorksFrom self.old history input
+            → IfOk result (λ p. p ≡ Done → StandsFor self.new (extended history input)) }
+        ensures change { (history : History) (input : Input) → WorksFrom self.old history input
             → IfOk result (λ p. p ≡ Done → last_change self.new ≡ change_by (rules_of self.new) history input) }
-        ensures more { (history : List Input) → (input : Input) → WorksFrom self.old history input
+        ensures more { (history : History) (input : Input) → WorksFrom self.old history input
             → IfOk result (λ p. p ≡ More → WorksFrom self.new history input) }
         ensures less { IfOk result (λ p. p ≡ More → work_left self.new < work_left self.old) }
         ensures spent { IsErrOf result EngineFault.Spent ↔ (is_spent self.old ≡ true) }
@@ -160,19 +180,17 @@ impl Engine {
         ensures rules { rules_of self.new ≡ rules_of self.old }
         ensures late { late_of self.new ≡ late_of self.old }
     {
-        let (bound, changed) = match self.state {
-            State::Working { bound, changed } => (bound, changed),
-            State::Resting | State::Spent => return Err(EngineFault::Spent),
-        };
+        if self.spent() {
+            return Err(EngineFault::Spent);
+        }
         self.state = State::Spent;
-        self.table
-            .update(self.alloc, &self.rules, self.present.events(), changed)?;
-        self.bound = bound;
+        self.table.follow(self.alloc, &self.rules, &self.ledger)?;
+        self.ledger.settle();
         self.state = State::Resting;
         Ok(Progress::Done)
     }
 
-    /// What the last input changed: the detections that have gone, and then those that have come.
+    /// What the last input for which it worked has changed: the detections that have gone, and then those that have come.
     pub fn changes(&self) -> Changes<'_>
         requires resting { is_working self.now ≡ false }
         requires unspent { is_spent self.now ≡ false }

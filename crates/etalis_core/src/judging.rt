@@ -1,11 +1,11 @@
-// How an input moves the bound, and whether it is below it.
+// How an input moves the bound, and whether it is misplaced, or below the bound.
 ghost use Rattle.std.specs.Prelude.{◌≡◌};
-ghost use Rattle.ev_term.specs.Presence.{raised, is_below};
+ghost use Rattle.ev_term.specs.Presence.{History, extended, in_batch, raised, is_below, is_misplaced};
 
 use ev_term::Input;
 
 /// How far an input raises the bound: an event to its time less the lateness, where one is given.
-#[tactic(auto, using(crate::proofs::HistoryLaws::raised_take, crate::proofs::HistoryLaws::raised_advance, crate::proofs::HistoryLaws::raised_nothing))]
+#[tactic(auto, using(crate::proofs::HistoryLaws::raised_more))]
 pub fn raised(late: Option<u64>, input: &Input) -> u64
     ensures { result ≡ raised late input.now }
 {
@@ -16,9 +16,19 @@ pub fn raised(late: Option<u64>, input: &Input) -> u64
                 None => 0,
             }
         }
-        Input::Take(_) => 0,
         Input::Advance(time) => *time,
-        Input::Nothing => 0,
+        Input::Take(_) | Input::Nothing | Input::Begin | Input::Commit => 0,
+    }
+}
+
+/// Whether an input begins a batch in a batch, or ends one where there is none.
+pub fn is_misplaced(in_a_batch: bool, input: &Input) -> bool
+    ensures { (history : History) → in_a_batch ≡ in_batch history → result ≡ is_misplaced history input.now }
+{
+    match input {
+        Input::Begin => in_a_batch,
+        Input::Commit => !in_a_batch,
+        Input::Add(_) | Input::Take(_) | Input::Advance(_) | Input::Nothing => false,
     }
 }
 
@@ -30,6 +40,17 @@ pub fn is_below(bound: u64, input: &Input) -> bool
         Input::Add(event) => event.time() < bound,
         Input::Take(event) => event.time() < bound,
         Input::Advance(time) => *time < bound,
-        Input::Nothing => false,
+        Input::Nothing | Input::Begin | Input::Commit => false,
+    }
+}
+
+/// Whether a batch is open after an input, where it's known whether one is open before it.
+pub fn is_in_batch_after(in_a_batch: bool, input: &Input) -> bool
+    ensures { (history : History) → in_a_batch ≡ in_batch history → result ≡ in_batch (extended history input.now) }
+{
+    match input {
+        Input::Begin => true,
+        Input::Commit => false,
+        Input::Add(_) | Input::Take(_) | Input::Advance(_) | Input::Nothing => in_a_batch,
     }
 }

@@ -1,12 +1,14 @@
-//! An engine over rules: it takes inputs one at a time, and tells after each what changed of the detections that stand.
+//! An engine over rules: it takes inputs one at a time, and tells after each that settles something what changed of the detections
+//! that stand.
 #![tactic(auto)]
 
 mod engine;
 mod faults;
 mod judging;
-mod missing;
+mod ledger;
 mod present;
 mod table;
 
 pub use engine::Engine;
 pub use faults::{EngineFault, StartFault};
+pub use present::MOST_COPIES;

@@ -1,58 +1,70 @@
-// The events that are present, with the numbers of their copies.
-ghost use Rattle.std.specs.Prelude.{◌≡◌, true, length};
+// The events that are present, with the numbers of their copies, and which of them have changed.
+ghost use Rattle.std.specs.Prelude.{◌≡◌, ◌<◌, IfSome, OnOk, OnErr, if◌then◌else◌, not};
+ghost use Rattle.std.specs.Ordering.{is_eq};
+ghost use Rattle.std.specs.BTreeMap.{get};
+ghost use Rattle.std.specs.BTreeSet.{BTreeSet, IsOrdered};
+ghost use Rattle.std.proofs.Props.{props};
+ghost use Rattle.ordered_lists.specs.Canon.{has};
+ghost use Rattle.ev_term.specs.declared.events.Event.{Event};
 ghost use Rattle.ev_term.specs.EventOrder.{event_cmp};
-ghost use Rattle.etalis_core.specs.Rises.{rises};
-ghost use Rattle.etalis_core.specs.Numbers.{positive};
 
 use ev_term::{Event, Input};
 use std::alloc::{AllocError, Global};
+use std::collections::{BTreeMap, BTreeSet};
 
-/// Events in order and each once, with the number of copies of each at its place beside them.
+/// The most copies of an event.
+pub const MOST_COPIES: u64 = 1 << 63;
+
+/// The number of copies of each event that is present, and the events that are present and weren't, or aren't and were, since the
+/// changes were last forgotten.
 #[derive(Drop)]
 pub struct Present {
-    events: Vec<Event>,
-    numbers: Vec<u64>,
-    ghost in_order: { rises event_cmp events.items ≡ true },
-    ghost one_each: { length numbers.items ≡ length events.items },
-    ghost some_copies: { positive numbers.items ≡ true },
+    numbers: BTreeMap<Event, u64>,
+    changed: BTreeSet<Event>,
+    ghost some_copies: { (e : Event) → IfSome (get event_cmp numbers e) (λ n. 0 < n) } by { Prim.hlevel props },
+    ghost in_order: { IsOrdered event_cmp changed } by { Prim.hlevel props },
+}
+
+// Puts an event into a set, or takes it out where it's in.
+fn flip(events: &mut BTreeSet<Event>, event: &Event) -> Result<(), AllocError>
+    ensures ok { (e : Event) → OnOk result (has event_cmp e events.new.keys
+        ≡ (if is_eq (event_cmp event.now e) then not (has event_cmp e events.old.keys) else has event_cmp e events.old.keys)) }
+    ensures err { OnErr result (events.new.keys ≡ events.old.keys) }
+    ensures ordered { IsOrdered event_cmp events.new }
+{
+    if !events.remove(event) {
+        events.insert(event.share()?)?;
+    }
+    Ok(())
 }
 
 impl Present {
-    ghost use Rattle.std.specs.Prelude.{◌≡◌, ◌+◌, ◌-◌, ◌*◌, ◌^◌, ◌<◌, ◌==◌, [], ◌∷◌, false, List, OnOk, OnErr, IfOk};
-    ghost use Rattle.ev_term.specs.declared.events.Event.{Event};
-    ghost use Rattle.ev_term.specs.Presence.{added, taken, occurrences, copies, is_absent};
+    ghost use Rattle.std.specs.Prelude.{◌+◌, ◌-◌, ◌↔◌, List, [], ◌∷◌, IfOk, true, false};
+    ghost use Rattle.ev_term.specs.Presence.{added, taken, occurrences, copies, present, is_absent};
     ghost use Rattle.ev_term.specs.declared.inputs.Input.{Input};
-    ghost use Rattle.etalis_core.specs.StandsFor.{number_of, Keeps, HasRoom};
+    ghost use Rattle.etalis_core.specs.Kept.{number_of, was_kept, HasRoom};
 
-    /// No events.
+    /// No events, and no changes.
     pub fn new(alloc: Global) -> Present
-        ensures { Keeps result [] }
+        ensures numbers { (e : Event) → number_of result e ≡ 0 }
+        ensures changed { result.changed.keys ≡ [] }
     {
         Present {
-            events: Vec::new(alloc),
-            numbers: Vec::new(alloc),
+            numbers: BTreeMap::new(alloc),
+            changed: BTreeSet::new(alloc),
         }
-    }
-
-    pub fn events(&self) -> &[Event]
-        ensures { result.now ≡ self.now.events.items }
-    {
-        &self.events
     }
 
     /// The copies of an event.
     pub fn number_of(&self, event: &Event) -> u64
         ensures { result ≡ number_of self.now event.now }
     {
-        match self.events.binary_search(event) {
-            Ok(at) => self.numbers[at],
-            Err(_) => 0,
-        }
+        self.numbers.get(event).copied().unwrap_or(0)
     }
 
     /// Whether an input takes back an event of which there is no copy.
     pub fn is_absent(&self, input: &Input) -> bool
-        ensures { (history : List Input) → Keeps self.now history → result ≡ is_absent history input.now }
+        ensures { (inputs : List Input) → ((e : Event) → number_of self.now e ≡ copies inputs e) → result ≡ is_absent inputs input.now }
     {
         match input {
             Input::Take(event) => self.number_of(event) == 0,
@@ -60,60 +72,95 @@ impl Present {
         }
     }
 
-    // Adds a copy, and answers whether it is the first of its event. Where memory fails, all stays as it was.
-    fn add(&mut self, event: Event) -> Result<bool, AllocError>
-        requires { number_of self.old event < 2 ^ 63 }
+    /// The events that are present, in order.
+    pub fn events(&self, alloc: Global) -> Result<Vec<Event>, AllocError>
+        ensures { (inputs : List Input) → ((e : Event) → number_of self.now e ≡ copies inputs e) → IfOk result (λ v. v.items ≡ present inputs) }
+    {
+        let mut events = Vec::new(alloc);
+        for event in self.numbers.keys() {
+            events.push(event.share()?)?;
+        }
+        Ok(events)
+    }
+
+    /// Whether other events are present than when the changes were last forgotten.
+    pub fn has_changed(&self) -> bool
+        ensures { (result ≡ false) ↔ (self.now.changed.keys ≡ []) }
+    {
+        !self.changed.is_empty()
+    }
+
+    /// Forgets the changes.
+    pub fn forget_changes(&mut self)
+        ensures numbers { (e : Event) → number_of self.new e ≡ number_of self.old e }
+        ensures changed { self.new.changed.keys ≡ [] }
+    {
+        self.changed.clear();
+    }
+
+    // Adds the first copy of an event.
+    fn add_first(&mut self, event: Event) -> Result<(), AllocError>
+        requires { number_of self.old event ≡ 0 }
         ensures numbers { (e : Event) → OnOk result (number_of self.new e ≡ number_of self.old e + occurrences e (event ∷ [])) }
-        ensures first { IfOk result (λ first. first ≡ (number_of self.old event == 0)) }
-        ensures same_events { IfOk result (λ first. first ≡ false → self.new.events.items ≡ self.old.events.items) }
-        ensures err_events { OnErr result (self.new.events.items ≡ self.old.events.items) }
-        ensures err_numbers { OnErr result (self.new.numbers.items ≡ self.old.numbers.items) }
+        ensures was { (e : Event) → OnOk result (was_kept self.new e ≡ was_kept self.old e) }
+        ensures err_numbers { (e : Event) → OnErr result (number_of self.new e ≡ number_of self.old e) }
+        ensures err_changed { OnErr result (self.new.changed.keys ≡ self.old.changed.keys) }
     {
-        match self.events.binary_search(&event) {
-            Ok(at) => {
-                self.numbers[at] += 1;
-                Ok(false)
-            }
-            Err(at) => {
-                self.numbers.reserve(1)?;
-                self.events.insert(at, event)?;
-                self.numbers.insert(at, 1).unwrap();
-                Ok(true)
-            }
+        let shared = event.share()?;
+        self.numbers.insert(event, 1)?;
+        if let Err(fault) = flip(&mut self.changed, &shared) {
+            self.numbers.remove(&shared);
+            return Err(fault);
         }
+        Ok(())
     }
 
-    // Takes a copy away, and answers whether it was the last of its event.
-    fn take(&mut self, event: &Event) -> bool
-        ensures numbers { (e : Event) → number_of self.new e ≡ number_of self.old e - occurrences e (event.now ∷ []) }
-        ensures last { result ≡ (number_of self.old event.now == 1) }
-        ensures same_events { result ≡ false → self.new.events.items ≡ self.old.events.items }
+    // Adds a copy of an event.
+    fn add(&mut self, event: Event) -> Result<(), AllocError>
+        requires { number_of self.old event < MOST_COPIES }
+        ensures numbers { (e : Event) → OnOk result (number_of self.new e ≡ number_of self.old e + occurrences e (event ∷ [])) }
+        ensures was { (e : Event) → OnOk result (was_kept self.new e ≡ was_kept self.old e) }
+        ensures err_numbers { (e : Event) → OnErr result (number_of self.new e ≡ number_of self.old e) }
+        ensures err_changed { OnErr result (self.new.changed.keys ≡ self.old.changed.keys) }
     {
-        match self.events.binary_search(event) {
-            Ok(at) => {
-                if self.numbers[at] > 1 {
-                    self.numbers[at] -= 1;
-                    return false;
-                }
-                let _event = self.events.remove(at);
-                let _number = self.numbers.remove(at);
-                true
-            }
-            Err(_) => false,
+        let number = self.number_of(&event);
+        if number == 0 {
+            return self.add_first(event);
         }
+        self.numbers.insert(event, number + 1)?;
+        Ok(())
     }
 
-    /// Takes an input, and answers whether that changed which events are present. Where memory fails, all stays as it was.
-    pub fn take_input(&mut self, input: Input) -> Result<bool, AllocError>
+    // Takes a copy of an event away, where there is one.
+    fn remove(&mut self, event: Event) -> Result<(), AllocError>
+        ensures numbers { (e : Event) → OnOk result (number_of self.new e ≡ number_of self.old e - occurrences e (event ∷ [])) }
+        ensures was { (e : Event) → OnOk result (was_kept self.new e ≡ was_kept self.old e) }
+        ensures err_numbers { (e : Event) → OnErr result (number_of self.new e ≡ number_of self.old e) }
+        ensures err_changed { OnErr result (self.new.changed.keys ≡ self.old.changed.keys) }
+    {
+        let number = self.number_of(&event);
+        if number == 1 {
+            flip(&mut self.changed, &event)?;
+            self.numbers.remove(&event);
+        } else if number > 1 {
+            self.numbers.insert(event, number - 1)?;
+        }
+        Ok(())
+    }
+
+    /// Follows an input: adds a copy of the event that it adds, or takes one away of the event that it takes back. Where memory
+    /// fails, all stays as it was.
+    pub fn follow(&mut self, input: Input) -> Result<(), AllocError>
         requires { HasRoom (number_of self.old) input }
         ensures numbers { (e : Event) → OnOk result (number_of self.new e ≡ number_of self.old e + occurrences e (added input) - occurrences e (taken input)) }
-        ensures same_events { IfOk result (λ changed. changed ≡ false → self.new.events.items ≡ self.old.events.items) }
+        ensures was { (e : Event) → OnOk result (was_kept self.new e ≡ was_kept self.old e) }
+        ensures err_numbers { (e : Event) → OnErr result (number_of self.new e ≡ number_of self.old e) }
+        ensures err_changed { OnErr result (self.new.changed.keys ≡ self.old.changed.keys) }
     {
         match input {
             Input::Add(event) => self.add(event),
-            Input::Take(event) => Ok(self.take(&event)),
-            Input::Advance(_) => Ok(false),
-            Input::Nothing => Ok(false),
+            Input::Take(event) => self.remove(event),
+            Input::Advance(_) | Input::Nothing | Input::Begin | Input::Commit => Ok(()),
         }
     }
 }

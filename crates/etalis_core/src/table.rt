@@ -1,10 +1,11 @@
 // What stands, and what changed of it.
-ghost use Rattle.std.specs.Prelude.{◌≡◌, true};
+ghost use Rattle.std.specs.Prelude.{◌≡◌, true, IfOk};
+ghost use Rattle.ordered_lists.specs.Rises.{rises};
 ghost use Rattle.ev_term.specs.EventOrder.{detection_cmp};
-ghost use Rattle.etalis_core.specs.Rises.{rises};
 
-use crate::missing::push_all_missing;
+use crate::ledger::Ledger;
 use ev_term::{Detection, Event};
+use ordered_lists::push_all_missing;
 use pattern_meaning::scratch;
 use rule_check::Checked;
 use std::alloc::{AllocError, Global};
@@ -18,13 +19,25 @@ pub struct Table {
     ghost in_order: { rises detection_cmp standing.items ≡ true },
 }
 
+// An equal detection that shares its atom.
+fn share(detection: &Detection) -> Result<Detection, AllocError>
+    ensures { IfOk result (λ d. d ≡ detection.now) }
+{
+    Ok(Detection {
+        atom: detection.atom.share()?,
+        span: detection.span,
+    })
+}
+
 impl Table {
-    ghost use Rattle.std.specs.Prelude.{◌≡◌, [], List, false, OnOk, IfOk};
-    ghost use Rattle.ev_term.specs.declared.events.Event.{Event};
+    ghost use Rattle.std.specs.Prelude.{ℕ, Option, List, [], OnOk};
+    ghost use Rattle.ev_term.specs.Presence.{History, all_inputs};
+    ghost use Rattle.ev_term.specs.declared.inputs.Input.{Input};
     ghost use Rattle.rule_ast.specs.Plain.{plain_rules};
     ghost use Rattle.pattern_meaning.specs.Standing.{standing};
     ghost use Rattle.pattern_meaning.specs.Replies.{change_between};
-    ghost use Rattle.etalis_core.specs.StandsFor.{change_of};
+    ghost use Rattle.etalis_core.specs.Kept.{IsLedgerOf};
+    ghost use Rattle.etalis_core.specs.StandsFor.{change_of, IsTableOf};
 
     /// What stands over these events, with no change.
     pub fn new(alloc: Global, rules: &Checked, events: &[Event]) -> Result<Table, AllocError>
@@ -51,37 +64,46 @@ impl Table {
         &self.come
     }
 
+    // Lets stand what stands.
+    fn rest(&mut self)
+        ensures standing { self.new.standing.items ≡ self.old.standing.items }
+        ensures change { change_of self.new ≡ change_between self.old.standing.items self.new.standing.items }
+    {
+        self.gone.clear();
+        self.come.clear();
+    }
+
     // Finds what stands over these events, and what that changes.
     fn renew(&mut self, alloc: Global, rules: &Checked, events: &[Event]) -> Result<(), AllocError>
-        requires gone { self.old.gone.items ≡ [] }
-        requires come { self.old.come.items ≡ [] }
         ensures standing { OnOk result (self.new.standing.items ≡ standing (plain_rules rules.now) events.now) }
         ensures change { OnOk result (change_of self.new ≡ change_between self.old.standing.items self.new.standing.items) }
     {
         let found = scratch(alloc, rules, events)?;
-        push_all_missing(&self.standing, &found, &mut self.gone)?;
-        push_all_missing(&found, &self.standing, &mut self.come)?;
+        self.gone.clear();
+        self.come.clear();
+        push_all_missing(&self.standing, &found, &share, &mut self.gone)?;
+        push_all_missing(&found, &self.standing, &share, &mut self.come)?;
         self.standing = found;
         Ok(())
     }
 
-    /// Goes over from what stands over some events to what stands over these, which are the same where the set hasn't changed.
-    pub fn update(
+    /// Goes over from what stands over some events to what stands over those of the ledger. That costs no evaluation where they are
+    /// the same.
+    pub fn follow(
         &mut self,
         alloc: Global,
         rules: &Checked,
-        events: &[Event],
-        changed: bool,
+        ledger: &Ledger,
     ) -> Result<(), AllocError>
-        ensures standing { (before : List Event) → self.old.standing.items ≡ standing (plain_rules rules.now) before → (changed ≡ false → events.now ≡ before)
-            → OnOk result (self.new.standing.items ≡ standing (plain_rules rules.now) events.now) }
+        ensures table { (late : Option ℕ) (told : List Input) (history : History) → IsLedgerOf ledger.now late told history
+            → IsTableOf self.old (plain_rules rules.now) told → OnOk result (IsTableOf self.new (plain_rules rules.now) (all_inputs history)) }
         ensures change { OnOk result (change_of self.new ≡ change_between self.old.standing.items self.new.standing.items) }
     {
-        self.gone.clear();
-        self.come.clear();
-        if !changed {
-            return Ok(());
+        if ledger.has_changed() {
+            let events = ledger.events(alloc)?;
+            return self.renew(alloc, rules, &events);
         }
-        self.renew(alloc, rules, events)
+        self.rest();
+        Ok(())
     }
 }

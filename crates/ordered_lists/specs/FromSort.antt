@@ -1,26 +1,17 @@
 -- What a sort and a dedup leave is the canonical list.
 use Rattle.std.specs.Prelude.{◌≡◌, refl, Bool, true, false, cond, ◌||◌, List, [], ◌∷◌}
-use Rattle.std.specs.List.{dedup, dedup_from, AllByRecursion}
-use Rattle.std.specs.List.Sorted.{IsPermutation, IsSorted, IsStrictlySortedBy}
+use Rattle.std.specs.List.{dedup, dedup_from}
+use Rattle.std.specs.List.Sorted.{IsPermutation, IsSorted}
 use Rattle.std.specs.declared.cmp.Ordering.{Ordering}
-use Rattle.std.specs.declared.cmp.Ordering.TheVariants.{Less}
 use Rattle.std.specs.Ordering.{is_eq, eq_by_cmp}
 use Rattle.std.specs.Cmp.{Equal-is}
 use Rattle.std.proofs.Common.{ap, sym, ◌∙◌}
 use Rattle.std.proofs.lemmas.List.Kept.{IsStrictlySortedBy-dedup}
 use Rattle.std.proofs.lemmas.List.Sorted.{list_any-IsPermutation}
-use Rattle.ordered_lists.specs.Canon.{canon, has, Rising, AllAbove, Exact, canon_one, Rising-canon, has-canon}
+use Rattle.ordered_lists.specs.Canon.{canon, has, Exact, canon_one, Rising-canon, has-canon}
+use Rattle.ordered_lists.specs.Rises.{rising_sorted}
 
 module _ {K : Type 0} {R : K → K → Ordering} (o : Exact R) (E : K → K → Bool) (ties : (x y : K) → E x y ≡ eq_by_cmp R x y) where
-  above : (x : K) (xs : List K) → AllByRecursion (λ y. R x y ≡ Less) xs → AllAbove R x xs
-  above x [] a = tt
-  above x (y ∷ ys) a = (a.0, above x ys a.1)
-
-  rising : (xs : List K) → IsStrictlySortedBy R xs → Rising R xs
-  unfolding IsStrictlySortedBy
-  rising [] a = tt
-  rising (x ∷ xs) a = (above x xs a.0, rising xs a.1)
-
   or_twice : (a b : Bool) → (a || b) ≡ (a || (a || b))
   or_twice true b = refl
   or_twice false b = refl
@@ -39,5 +30,5 @@ module _ {K : Type 0} {R : K → K → Ordering} (o : Exact R) (E : K → K → 
   has-dedup q (x ∷ xs) = has-dedup_from q x xs
 
   pub canon_from_sort : (xs ys zs : List K) → IsPermutation xs ys → IsSorted R ys → zs ≡ dedup E ys → zs ≡ canon R xs
-  canon_from_sort xs ys zs p s e = e ∙ canon_one o (dedup E ys) (canon R xs) (rising (dedup E ys) (IsStrictlySortedBy-dedup o.total ties ys s)) (Rising-canon o xs)
+  canon_from_sort xs ys zs p s e = e ∙ canon_one o (dedup E ys) (canon R xs) (rising_sorted R (dedup E ys) (IsStrictlySortedBy-dedup o.total ties ys s)) (Rising-canon o xs)
       (λ q. has-dedup q ys ∙ sym (list_any-IsPermutation _ xs ys p) ∙ sym (has-canon o q xs))

@@ -1,21 +1,29 @@
-use Rattle.std.proofs.Common.{refl, sym, ◌∙◌}
-use Rattle.std.specs.Prelude.{max}
+use Rattle.std.proofs.Common.{not, refl, ap, ◌∙◌}
+use Rattle.ev_term.specs.Presence.{settled}
 use Rattle.etalis_core.specs.StandsFor.{late_of}
-use Rattle.etalis_core.proofs.HistoryLaws.{bound_next}
-use Rattle.etalis_core.proofs.EngineLaws.{fine_for_all, keeps_next}
+use Rattle.etalis_core.proofs.EngineLaws.{fine_for_all, works_where, stands_at_once}
 use Rattle.etalis_core.proofs.engine.Engine.begin.Goals as goal
 
 pub returns-clause-works : goal.returns-clause-works
-returns-clause-works c = λ history s. let old = c.args.self.now in
-    let kept = keeps_next old.present c.take_input.new.self (late_of old) history c.args.input s.accepted s.keeps c.in_ok-changed.ensures.numbers in
+returns-clause-works c = λ h s settling.
+    let fine = fine_for_all c.args.self.now h c.args.input c.requires s in
+    let ledger = c.in_ok-follow.ensures.ok (settled h) h s.ledger s.accepted fine in
     record {
       accepted = s.accepted;
-      fine = fine_for_all old history c.args.input c.requires s;
-      same_bound = s.same_bound;
-      next_bound = c.max-bound.ensures ∙ (λ i. max (s.same_bound i) (c.raised.ensures i)) ∙ sym (bound_next (late_of old) history c.args.input);
-      keeps = kept;
-      same_events = λ unchanged. sym kept.events ∙ c.in_ok-changed.ensures.same_events unchanged ∙ s.keeps.events;
-      stands = s.stands;
-      is_begun = refl;
-      not_spent = refl;
+      fine = fine;
+      settling = settling;
+      ledger = ledger;
+      table = s.table;
+      is_begun = works_where c.follow.new.self (late_of c.args.self.now) h c.args.input ledger _ (c.after_input-self.ensures.working ∙ ap not c.in_batch.ensures) ∙ settling;
+      not_spent = c.after_input-self.ensures.unspent;
     }
+
+pub returns-clause-stands : goal.returns-clause-stands
+returns-clause-stands c = λ h s nothing.
+    let fine = fine_for_all c.args.self.now h c.args.input c.requires s in
+    stands_at_once c.args.self.now _ h c.args.input s fine nothing (c.in_ok-follow.ensures.ok (settled h) h s.ledger s.accepted fine) refl refl refl
+    (c.after_input-self.ensures.working ∙ ap not c.in_batch.ensures) c.after_input-self.ensures.unspent
+
+pub returns-clause-working : goal.returns-clause-working
+returns-clause-working c = λ h can.
+    works_where c.follow.new.self (late_of c.args.self.now) h c.args.input (c.in_ok-follow.ensures.ok (settled h) h can.ledger can.accepted can.fine) _ (c.after_input-self.ensures.working ∙ ap not c.in_batch.ensures)

@@ -1,17 +1,14 @@
-use Rattle.std.proofs.Common.{refl, sym, ap, ◌∙◌}
-use Rattle.ev_term.specs.Presence.{present}
-use Rattle.pattern_meaning.specs.Standing.{standing}
-use Rattle.etalis_core.specs.StandsFor.{rules_of, late_of, bound_to_be, has_changed}
-use Rattle.etalis_core.proofs.HistoryLaws.{accepted_more}
+use Rattle.std.proofs.Common.{refl}
+use Rattle.ev_term.specs.Presence.{settled, extended}
+use Rattle.etalis_core.specs.StandsFor.{late_of}
+use Rattle.etalis_core.proofs.EngineLaws.{stands_done, change_is}
 use Rattle.etalis_core.proofs.engine.Engine.turn.Goals as goal
 
 pub returns-clause-done : goal.returns-clause-done
-returns-clause-done c = λ history input w _. let old = c.args.self.now in record {
-  accepted = accepted_more (late_of old) history input w.accepted w.fine;
-  same_bound = ap bound_to_be (sym c.in-Working.is) ∙ w.next_bound;
-  keeps = w.keeps;
-  stands = c.in_ok-update.ensures.standing (present history) w.stands (λ unchanged. c.events.ensures ∙ w.keeps.events ∙ w.same_events (ap has_changed c.in-Working.is ∙ unchanged))
-      ∙ ap (standing (rules_of old)) (c.events.ensures ∙ w.keeps.events);
-  not_working = refl;
-  not_spent = refl;
-}
+returns-clause-done c = λ h input w _. let late = late_of c.args.self.now in
+    stands_done c.args.self.now _ h input w refl (c.settle.ensures late (settled h) (extended h input) w.ledger)
+    (c.in_ok-follow.ensures.table late (settled h) (extended h input) w.ledger w.table) refl refl
+
+pub returns-clause-change : goal.returns-clause-change
+returns-clause-change c = λ h input w _.
+    change_is c.args.self.now c.follow.new.self h input w (c.in_ok-follow.ensures.table (late_of c.args.self.now) (settled h) (extended h input) w.ledger w.table) c.in_ok-follow.ensures.change

@@ -1,0 +1,54 @@
+-- What is kept of a history of inputs: the copies of its events, the bounds, whether a batch is open, and what it has changed of
+-- the events that are present since it was last told what stands.
+use Rattle.std.specs.Prelude.{◌≡◌, ℕ, ◌<◌, Bool, not, nat_lt, unwrap_or, if◌then◌else◌, Option, List, map}
+use Rattle.std.specs.BTreeMap.{get}
+use Rattle.ordered_lists.specs.Canon.{has}
+use Rattle.ev_term.specs.declared.events.Event.{Event}
+use Rattle.ev_term.specs.EventOrder.{event_cmp}
+use Rattle.ev_term.specs.Presence.{History, all_inputs, in_batch, copies, present, bound}
+use Rattle.ev_term.specs.declared.inputs.Input.{Input}
+use Rattle.ev_term.specs.declared.inputs.Input.TheVariants.{Add, Take, Advance, Nothing, Begin, Commit}
+use Rattle.revision.specs.declared.events.EventChange.{EventChange}
+use Rattle.revision.specs.declared.events.EventChange.TheVariants.{Came, Went}
+use Rattle.revision.specs.Events.{event_changes}
+use Rattle.etalis_core.specs.declared.present.TheConstants.{MOST_COPIES}
+use Rattle.etalis_core.specs.declared.present.Present.{Present}
+use Rattle.etalis_core.specs.declared.ledger.Ledger.{Ledger}
+
+-- ---- the events that are present
+
+-- the copies of an event that are kept
+abbrev pub number_of : Present → Event → ℕ
+number_of kept e = unwrap_or (get event_cmp kept.numbers e) 0
+
+-- whether a copy of an event is kept
+abbrev pub is_kept : Present → Event → Bool
+is_kept kept e = nat_lt 0 (number_of kept e)
+
+-- whether an event was present when the changes were last forgotten
+abbrev pub was_kept : Present → Event → Bool
+was_kept kept e = if has event_cmp e kept.changed.keys then not (is_kept kept e) else is_kept kept e
+
+-- the net changes since then: an event that has changed came where a copy is kept, and went where none is
+abbrev pub net_changes : Present → List EventChange
+net_changes kept = map (λ e. if is_kept kept e then Came e else Went e) kept.changed.keys
+
+-- room for one copy more of the event of an `Add`
+abbrev pub HasRoom : (Event → ℕ) → Input → Type 0
+HasRoom number (Add e) = number e < MOST_COPIES
+HasRoom number (Take e) = Unit {0}
+HasRoom number (Advance t) = Unit {0}
+HasRoom number Nothing = Unit {0}
+HasRoom number Begin = Unit {0}
+HasRoom number Commit = Unit {0}
+
+-- ---- the ledger of a history
+
+-- The ledger has the copies of this history, its bound and whether a batch is open in it. What stands was told after other
+-- inputs: the ledger has their bound, and the net changes from the events that were present after them.
+pub record IsLedgerOf (ledger : Ledger) (late : Option ℕ) (told : List Input) (history : History) : Type 0 where
+  pub numbers : (e : Event) → number_of ledger.present e ≡ copies (all_inputs history) e
+  pub net : net_changes ledger.present ≡ event_changes (present told) (present (all_inputs history))
+  pub told_bound : ledger.bound ≡ bound late told
+  pub next_bound : ledger.next_bound ≡ bound late (all_inputs history)
+  pub batch : ledger.in_batch ≡ in_batch history

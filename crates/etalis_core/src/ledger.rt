@@ -1,0 +1,106 @@
+// What is kept of the inputs: the events that are present, the bounds, and whether a batch is open.
+use crate::judging::{is_below, is_in_batch_after, is_misplaced, raised};
+use crate::present::Present;
+use ev_term::{Event, Input, Judgement};
+use std::alloc::{AllocError, Global};
+
+/// What the inputs come to, those of an open batch too. It knows how the next input is judged, and how the events that are present
+/// differ from those at the last settlement.
+#[derive(Drop)]
+pub struct Ledger {
+    present: Present,
+    bound: u64,
+    next_bound: u64,
+    in_batch: bool,
+}
+
+impl Ledger {
+    ghost use Rattle.std.specs.Prelude.{◌≡◌, ◌↔◌, ℕ, Option, List, [], false, OnOk, OnErr, IfOk};
+    ghost use Rattle.ev_term.specs.declared.inputs.Input.{Input};
+    ghost use Rattle.ev_term.specs.declared.inputs.Judgement.TheVariants.{Fine};
+    ghost use Rattle.ev_term.specs.Presence.{History, no_history, settled, all_inputs, extended, in_batch, bound, present, judge, IsAccepted};
+    ghost use Rattle.etalis_core.specs.Kept.{number_of, HasRoom, IsLedgerOf};
+
+    /// Of no inputs.
+    pub fn new(alloc: Global) -> Ledger
+        ensures { (late : Option ℕ) → IsLedgerOf result late [] no_history }
+    {
+        Ledger {
+            present: Present::new(alloc),
+            bound: 0,
+            next_bound: 0,
+            in_batch: false,
+        }
+    }
+
+    /// The bound at the last settlement.
+    pub fn bound(&self) -> u64
+        ensures { result ≡ self.now.bound }
+    {
+        self.bound
+    }
+
+    pub fn in_batch(&self) -> bool
+        ensures { result ≡ self.now.in_batch }
+    {
+        self.in_batch
+    }
+
+    /// The events that are present, in order.
+    pub fn events(&self, alloc: Global) -> Result<Vec<Event>, AllocError>
+        ensures { (late : Option ℕ) (told : List Input) (history : History) → IsLedgerOf self.now late told history
+            → IfOk result (λ v. v.items ≡ present (all_inputs history)) }
+    {
+        self.present.events(alloc)
+    }
+
+    /// Whether other events are present than at the last settlement.
+    pub fn has_changed(&self) -> bool
+        ensures { (late : Option ℕ) (told : List Input) (history : History) → IsLedgerOf self.now late told history
+            → (result ≡ false) ↔ (present (all_inputs history) ≡ present told) }
+    {
+        self.present.has_changed()
+    }
+
+    /// How an input is judged after those that were followed.
+    pub fn judge(&self, input: &Input) -> Judgement
+        ensures { (late : Option ℕ) (history : History) → IsLedgerOf self.now late (settled history) history
+            → result ≡ judge late history input.now }
+    {
+        if is_misplaced(self.in_batch, input) {
+            return Judgement::Batch;
+        }
+        if is_below(self.bound, input) {
+            return Judgement::Below { bound: self.bound };
+        }
+        if self.present.is_absent(input) {
+            return Judgement::Absent;
+        }
+        Judgement::Fine
+    }
+
+    /// Follows an input that is fine. Where memory fails, all stays as it was.
+    pub fn follow(&mut self, late: Option<u64>, input: Input) -> Result<(), AllocError>
+        requires { HasRoom (number_of self.old.present) input }
+        ensures ok { (told : List Input) (history : History) → IsLedgerOf self.old late told history → IsAccepted late history
+            → judge late history input ≡ Fine → OnOk result (IsLedgerOf self.new late told (extended history input)) }
+        ensures err { (told : List Input) (history : History) → IsLedgerOf self.old late told history
+            → OnErr result (IsLedgerOf self.new late told history) }
+    {
+        let next_bound = self.next_bound.max(raised(late, &input));
+        let in_batch = is_in_batch_after(self.in_batch, &input);
+        self.present.follow(input)?;
+        self.next_bound = next_bound;
+        self.in_batch = in_batch;
+        Ok(())
+    }
+
+    /// Takes all that was followed as settled: the bound is raised, and the changes of the events are forgotten.
+    pub fn settle(&mut self)
+        ensures { (late : Option ℕ) (told : List Input) (history : History) → IsLedgerOf self.old late told history
+            → IsLedgerOf self.new late (all_inputs history) history }
+    {
+        self.present.forget_changes();
+        self.bound = self.next_bound;
+    }
+}
