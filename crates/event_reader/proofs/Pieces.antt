@@ -184,7 +184,7 @@ pub two_times : (line : List ℕ) (at start end time last : ℕ) → TimeRead (�
     → TimeRead (λ k. Start k) line (end + 1 + 1) time last → TimesRead line at (Two start time (end + 1 + 1)) last
 two_times line at start end time last t b c u = record {
   inside = u.inside;
-  fit = u.small;
+  fit = (t.small, u.small);
   second = let place : end + 1 + 1 ≡ end + 2 = omega arith in place ∙ sym (t.stops ∙ ap (λ y. behind_stops y end) b.next);
   reads = λ w. to_second line at start end t b c w ∙ u.reads (way.Kind.OfSecond w start);
   over = λ dark w. time_stuck (way.Kind.OfSecond w start) time last (drop last line) refl (inr refl) dark u.over;

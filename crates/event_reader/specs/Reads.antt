@@ -144,10 +144,10 @@ abbrev pub when_of : Times → When
 when_of (One time) = At time
 when_of (Two start end place) = Between start end
 
--- the last time is below the limit
+-- the times are below the limit
 abbrev pub AreTimes : Times → Type 0
 AreTimes (One time) = time < TIME_LIMIT
-AreTimes (Two start end place) = end < TIME_LIMIT
+AreTimes (Two start end place) = (start < TIME_LIMIT) × (end < TIME_LIMIT)
 
 -- the second time, where there is one, stands at the place
 abbrev pub SecondAt : Times → ℕ → Type 0
