@@ -1,14 +1,13 @@
 -- What is left of a line behind a state of the machine, in the grammar's words.
-use Rattle.std.proofs.Common.{◌≡◌, ℕ, ◌+◌, ◌*◌, ◌^◌, ◌<◌, inl, inr, Bool, true, false, cond, List, [], ◌∷◌, ◌++◌, Option, Some, None, MatchOption, option_and_then, option_map, refl, sym, ap, ◌∙◌, arith, subst, append_assoc, append-nil}
+use Rattle.std.proofs.Common.{◌≡◌, ◌⊎◌, ℕ, ◌+◌, ◌*◌, ◌<◌, ◌==◌, inl, inr, Bool, true, false, cond, List, [], ◌∷◌, ◌++◌, Option, Some, None, MatchOption, option_and_then, option_map, refl, sym, ap, ◌∙◌, arith, subst, append_assoc, append-nil}
 use Rattle.std.specs.Prelude.{nat_lt}
 use Rattle.std.specs.List.{list_all}
 use Rattle.std.specs.Char.{digit_value}
 use Rattle.std.specs.Str.Parse.{digits_value_after}
-use Rattle.std.proofs.lemmas.Bool.{and_from, ltb-true}
-use Rattle.ev_term.specs.declared.events.Event.{Event}
+use Rattle.std.proofs.lemmas.Bool.{and_from, eqb-true, ltb-true}
+use Rattle.ev_term.specs.Bytes.{bang, stop}
 use Rattle.ev_term.specs.declared.atoms.Atom.{Atom}
-use Rattle.ev_term.specs.declared.inputs.Input.{Input}
-use Rattle.ev_term.specs.declared.inputs.Input.TheVariants.{Add, Take, Advance, Nothing}
+use Rattle.ev_term.specs.declared.events.TheConstants.{TIME_LIMIT}
 use Rattle.term_reader.specs.Signs.{sign_of, signs}
 use Rattle.term_reader.specs.Grammar.{Tree, Wanted.AnAtom, atom_value}
 use Rattle.term_reader.specs.Machine as atom
@@ -17,10 +16,11 @@ use Rattle.term_reader.proofs.Walks.{walk}
 use Rattle.term_reader.proofs.Places.{said_reads, start_fine}
 use Rattle.term_reader.proofs.Found.{leads_walk}
 use Rattle.event_reader.specs.declared.parts.Part.{Part}
-use Rattle.event_reader.specs.declared.parts.Part.TheVariants.{Blank, Digit, Plus, Minus, Bang, Hash}
-use Rattle.event_reader.specs.EventLines.{is_blank, is_digit, all_blank, IsGap, IsTime, IsAtom, Marked, OfEvent, HasForm}
+use Rattle.event_reader.specs.declared.parts.Part.TheVariants.{Blank, Digit, Plus, Minus, Bang, Hash, Stop, Other}
+use Rattle.event_reader.specs.EventLines.{Way, Way.Comes, Way.Retracted, When, When.At, When.Between, Written, Written.EmptyLine, Written.EventLine, Written.AdvanceLine, Written.BeginLine, Written.CommitLine}
+use Rattle.event_reader.specs.EventLines.{is_blank, is_digit, all_blank, IsGap, IsTime, IsWhen, IsAtom, Marked, OfWord, mark_of, begin_word, commit_word, HasForm}
 use Rattle.event_reader.specs.Machine as way
-use Rattle.event_reader.specs.Machine.{part_of, Way, Way.Adds, Way.Takes, Kind, State, State.Front, State.Note, State.Mark, State.Gap, State.Digits, State.Wait, State.InAtom, State.End, of_event, behind_time, in_atom, over, atom_on, go, step, accepted}
+use Rattle.event_reader.specs.Machine.{part_of, Kind, State, State.Front, State.Note, State.Spell, State.Mark, State.Gap, State.Start, State.Digits, State.Wait, State.InAtom, State.End, letter_c, spell, first_of, in_word, behind_time, behind_stop, in_atom, over, atom_on, go, step, accepted}
 use Rattle.event_reader.proofs.Tells.{Tells, part_tells}
 
 -- ---- what is left
@@ -41,49 +41,65 @@ pub record Blanked (P : List ℕ → Type 0) (xs : List ℕ) : Type 0 where
   pub text : xs ≡ gap ++ back
   pub next : P back
 
+-- these bytes, and then what has the property
+pub record Spelled (P : List ℕ → Type 0) (word xs : List ℕ) : Type 0 where
+  pub back : List ℕ
+  pub text : xs ≡ word ++ back
+  pub next : P back
+
 -- the rest of an atom that begins with front, and blanks
-pub record Atomed (w : Way) (time : ℕ) (i : Input) (front xs : List ℕ) : Type 0 where
+pub record Atomed (w : Way) (when : When) (i : Written) (front xs : List ℕ) : Type 0 where
   pub more : List ℕ
   pub end : List ℕ
   pub atom : Atom
   pub is_atom : IsAtom (front ++ more) atom
   pub end_blank : all_blank end ≡ true
   pub text : xs ≡ more ++ end
-  pub says : of_event w time atom ≡ i
+  pub says : EventLine w when atom ≡ i
 
--- what stands behind a time
-abbrev pub Behind : Kind → ℕ → Input → List ℕ → Type 0
-Behind (way.Kind.OfEvent w) time i xs = Gapped (Atomed w time i []) xs
-Behind way.Kind.OfTime time i xs = (all_blank xs ≡ true) × (Advance time ≡ i)
-
--- a time, and what stands behind it
-pub record TimeHere (k : Kind) (i : Input) (xs : List ℕ) : Type 0 where
+-- a time, and behind it what has the property for it
+pub record TimeHere (P : ℕ → List ℕ → Type 0) (xs : List ℕ) : Type 0 where
   pub digits : List ℕ
   pub back : List ℕ
   pub time : ℕ
   pub is_time : IsTime digits time
   pub text : xs ≡ digits ++ back
-  pub behind : Behind k time i back
+  pub behind : P time back
 
--- the rest of a time whose first digits have the value so far
-pub record Timed (k : Kind) (i : Input) (so_far : ℕ) (xs : List ℕ) : Type 0 where
+-- the rest of a time whose first digits have the value so far, and behind it what has the property for it
+pub record Timed (P : ℕ → List ℕ → Type 0) (so_far : ℕ) (xs : List ℕ) : Type 0 where
   pub more : List ℕ
   pub back : List ℕ
   pub time : ℕ
   pub digits : list_all is_digit more ≡ true
   pub value : digits_value_after 10 so_far more ≡ time
-  pub small : time < 2 ^ 62
+  pub small : time < TIME_LIMIT
   pub text : xs ≡ more ++ back
-  pub behind : Behind k time i back
+  pub behind : P time back
 
-abbrev pub Rest : State → Input → List ℕ → Type 0
+-- what stands behind the second time of an event
+abbrev pub BehindSecond : Way → ℕ → Written → ℕ → List ℕ → Type 0
+BehindSecond w start i time xs = Gapped (Atomed w (Between start time) i []) xs
+
+abbrev pub stops : List ℕ
+stops = stop ∷ stop ∷ []
+
+-- what stands behind a time
+abbrev pub Behind : Kind → Written → ℕ → List ℕ → Type 0
+Behind (way.Kind.OfEvent w) i time xs = Gapped (Atomed w (At time) i []) xs ⊎ Spelled (TimeHere (BehindSecond w time i)) stops xs
+Behind (way.Kind.OfSecond w start) i time xs = BehindSecond w start i time xs
+Behind way.Kind.OfTime i time xs = (all_blank xs ≡ true) × (AdvanceLine time ≡ i)
+
+abbrev pub Rest : State → Written → List ℕ → Type 0
 Rest Front i xs = HasForm xs i
-Rest Note i xs = Nothing ≡ i
-Rest (Mark k) i xs = Gapped (TimeHere k i) xs
-Rest (Gap k) i xs = Blanked (TimeHere k i) xs
-Rest (Digits k time) i xs = time < 2 ^ 62 → Timed k i time xs
-Rest (Wait w time) i xs = Blanked (Atomed w time i []) xs
-Rest (InAtom w time s) i xs = (front : List ℕ) → walk true (signs front) Begin ≡ Some s → Atomed w time i front xs
+Rest Note i xs = EmptyLine ≡ i
+Rest (Spell c bytes s) i xs = Spelled (Rest s i) (c ∷ bytes) xs
+Rest (Mark k) i xs = Gapped (TimeHere (Behind k i)) xs
+Rest (Gap k) i xs = Blanked (TimeHere (Behind k i)) xs
+Rest (Start k) i xs = TimeHere (Behind k i) xs
+Rest (Digits k time) i xs = time < TIME_LIMIT → Timed (Behind k i) time xs
+Rest (Wait w when) i xs = Blanked (Atomed w when i []) xs
+Rest (InAtom w when s) i xs = (front : List ℕ) → walk true (signs front) Begin ≡ Some s → Atomed w when i front xs
 Rest (End j) i xs = (all_blank xs ≡ true) × (j ≡ i)
 
 -- ---- one byte more in front
@@ -97,61 +113,80 @@ blanked_gap P b xs h r = record { gap = b ∷ r.gap; back = r.back; is_gap = rec
 blanked_none : (P : List ℕ → Type 0) (xs : List ℕ) → P xs → Blanked P xs
 blanked_none P xs p = record { gap = []; back = xs; blank = refl; text = refl; next = p }
 
-marked_more : (mark b : ℕ) (xs : List ℕ) (time : ℕ) (back : List ℕ) → is_blank b ≡ true → Marked mark xs time back → Marked mark (b ∷ xs) time back
-marked_more mark b xs time back h m = record { front = b ∷ m.front; gap = m.gap; digits = m.digits; front_blank = and_from _ _ h m.front_blank; is_gap = m.is_gap; is_time = m.is_time; text = ap (λ y. b ∷ y) m.text }
+marked_more : (mark b : ℕ) (xs back : List ℕ) → is_blank b ≡ true → Marked mark xs back → Marked mark (b ∷ xs) back
+marked_more mark b xs back h m = record { front = b ∷ m.front; gap = m.gap; front_blank = and_from _ _ h m.front_blank; is_gap = m.is_gap; text = ap (λ y. b ∷ y) m.text }
 
-event_more : (mark b : ℕ) (xs : List ℕ) (e : Event) → is_blank b ≡ true → OfEvent mark xs e → OfEvent mark (b ∷ xs) e
-event_more mark b xs e h r = record { gap = r.gap; atom = r.atom; end = r.end; marked = marked_more mark b xs e.time _ h r.marked; is_gap = r.is_gap; is_atom = r.is_atom; end_blank = r.end_blank }
+word_more : (word : List ℕ) (b : ℕ) (xs : List ℕ) → is_blank b ≡ true → OfWord word xs → OfWord word (b ∷ xs)
+word_more word b xs h r = record { front = b ∷ r.front; end = r.end; front_blank = and_from _ _ h r.front_blank; end_blank = r.end_blank; text = ap (λ y. b ∷ y) r.text }
 
-front_more : (b : ℕ) (xs : List ℕ) (i : Input) → is_blank b ≡ true → HasForm xs i → HasForm (b ∷ xs) i
-front_more b xs (Add e) h r = event_more 43 b xs e h r
-front_more b xs (Take e) h r = event_more 45 b xs e h r
-front_more b xs (Advance time) h r = record { end = r.end; marked = marked_more 33 b xs time r.end h r.marked; end_blank = r.end_blank }
-front_more b xs Nothing h (inl e) = inl (and_from _ _ h e)
-front_more b xs Nothing h (inr c) = inr (record { front = b ∷ c.front; back = c.back; front_blank = and_from _ _ h c.front_blank; text = ap (λ y. b ∷ y) c.text })
+front_more : (b : ℕ) (xs : List ℕ) (i : Written) → is_blank b ≡ true → HasForm xs i → HasForm (b ∷ xs) i
+front_more b xs EmptyLine h (inl e) = inl (and_from _ _ h e)
+front_more b xs EmptyLine h (inr c) = inr (record { front = b ∷ c.front; back = c.back; front_blank = and_from _ _ h c.front_blank; text = ap (λ y. b ∷ y) c.text })
+front_more b xs (EventLine w when a) h r = record {
+  times = r.times;
+  gap = r.gap;
+  words = r.words;
+  end = r.end;
+  marked = marked_more (mark_of w) b xs _ h r.marked;
+  is_when = r.is_when;
+  is_gap = r.is_gap;
+  is_atom = r.is_atom;
+  end_blank = r.end_blank;
+}
+front_more b xs (AdvanceLine time) h r = record { digits = r.digits; end = r.end; marked = marked_more bang b xs _ h r.marked; is_time = r.is_time; end_blank = r.end_blank }
+front_more b xs BeginLine h r = word_more _ b xs h r
+front_more b xs CommitLine h r = word_more _ b xs h r
 
 -- ---- a mark in front
 
-pub mark_of : Way → ℕ
-mark_of Adds = 43
-mark_of Takes = 45
-
-by_way : (w : Way) (line : List ℕ) (time : ℕ) (a : Atom) → ((mark : ℕ) → mark ≡ mark_of w → OfEvent mark line (record { time = time; atom = a })) → HasForm line (of_event w time a)
-unfolding mark_of
-by_way Adds line time a h = h 43 refl
-by_way Takes line time a h = h 45 refl
-
-marked_here : (k : Kind) (i : Input) (mark : ℕ) (xs back : List ℕ) → (r : Gapped (TimeHere k i) xs) → r.next.back ≡ back → Marked mark (mark ∷ xs) r.next.time back
-marked_here k i mark xs back r e = record {
-  front = [];
-  gap = r.gap;
-  digits = r.next.digits;
-  front_blank = refl;
-  is_gap = r.is_gap;
-  is_time = r.next.is_time;
-  text = ap (λ y. mark ∷ y) (r.text ∙ ap (λ y. r.gap ++ y) (r.next.text ∙ ap (λ y. r.next.digits ++ y) e));
-}
-
-event_here : (w : Way) (i : Input) (mark : ℕ) (xs : List ℕ) → (r : Gapped (TimeHere (way.Kind.OfEvent w) i) xs) → OfEvent mark (mark ∷ xs) (record { time = r.next.time; atom = r.next.behind.next.atom })
-event_here w i mark xs r =
-    let g = r.next.behind in
+event_of : (w : Way) (when : When) (i : Written) (b : ℕ) (xs gap times back : List ℕ) → b ≡ mark_of w → IsGap gap → xs ≡ gap ++ (times ++ back) → IsWhen times when
+    → Gapped (Atomed w when i []) back → HasForm (b ∷ xs) i
+event_of w when i b xs gap times back h is_gap text is_when g =
     let a = g.next in
-    record {
+    subst (HasForm (b ∷ xs)) a.says (record {
+      times = times;
       gap = g.gap;
-      atom = a.more;
+      words = a.more;
       end = a.end;
-      marked = marked_here (way.Kind.OfEvent w) i mark xs _ r (g.text ∙ ap (λ y. g.gap ++ y) a.text);
+      marked = record {
+        front = [];
+        gap = gap;
+        front_blank = refl;
+        is_gap = is_gap;
+        text = ap (λ y. y ∷ xs) h ∙ ap (λ y. mark_of w ∷ y) (text ∙ ap (λ y. gap ++ (times ++ y)) (g.text ∙ ap (λ y. g.gap ++ y) a.text));
+      };
+      is_when = is_when;
       is_gap = g.is_gap;
       is_atom = a.is_atom;
       end_blank = a.end_blank;
-    }
+    })
 
-event_form : (w : Way) (i : Input) (b : ℕ) (xs : List ℕ) → b ≡ mark_of w → Gapped (TimeHere (way.Kind.OfEvent w) i) xs → HasForm (b ∷ xs) i
-event_form w i b xs h r =
-    subst (HasForm (b ∷ xs)) r.next.behind.next.says (by_way w (b ∷ xs) r.next.time r.next.behind.next.atom (λ mark e. subst (λ y. OfEvent mark (y ∷ xs) (record { time = r.next.time; atom = r.next.behind.next.atom })) (e ∙ sym h) (event_here w i mark xs r)))
+event_form : (w : Way) (i : Written) (b : ℕ) (xs : List ℕ) → b ≡ mark_of w → Gapped (TimeHere (Behind (way.Kind.OfEvent w) i)) xs → HasForm (b ∷ xs) i
+event_form w i b xs h r = at r.next.behind
+  where
+    at : Behind (way.Kind.OfEvent w) i r.next.time r.next.back → HasForm (b ∷ xs) i
+    at (inl g) = event_of w (At r.next.time) i b xs r.gap r.next.digits r.next.back h r.is_gap (r.text ∙ ap (λ y. r.gap ++ y) r.next.text) r.next.is_time g
+    at (inr s) =
+        let first = r.next in
+        let second = s.next in
+        let times : List ℕ = first.digits ++ stop ∷ stop ∷ second.digits in
+        let text : first.back ≡ stop ∷ stop ∷ second.digits ++ second.back = s.text ∙ ap (λ y. stop ∷ stop ∷ y) second.text in
+        event_of w (Between first.time second.time) i b xs r.gap times second.back h r.is_gap (
+        r.text ∙ ap (λ y. r.gap ++ y) (first.text ∙ ap (λ y. first.digits ++ y) text ∙ sym (append_assoc first.digits (stop ∷ stop ∷ second.digits) second.back))
+        )
+        (record { first = first.digits; second = second.digits; is_first = first.is_time; is_second = second.is_time; text = refl })
+        second.behind
 
-time_form : (i : Input) (xs : List ℕ) → Gapped (TimeHere way.Kind.OfTime i) xs → HasForm (33 ∷ xs) i
-time_form i xs r = subst (HasForm (33 ∷ xs)) r.next.behind.1 (record { end = r.next.back; marked = marked_here way.Kind.OfTime i 33 xs r.next.back r refl; end_blank = r.next.behind.0 })
+time_form : (i : Written) (xs : List ℕ) → Gapped (TimeHere (Behind way.Kind.OfTime i)) xs → HasForm (bang ∷ xs) i
+time_form i xs r =
+    let t = r.next in
+    subst (HasForm (bang ∷ xs)) t.behind.1 (record {
+      digits = t.digits;
+      end = t.back;
+      marked = record { front = []; gap = r.gap; front_blank = refl; is_gap = r.is_gap; text = ap (λ y. bang ∷ y) (r.text ∙ ap (λ y. r.gap ++ y) t.text) };
+      is_time = t.is_time;
+      end_blank = t.behind.0;
+    })
 
 -- ---- atoms
 
@@ -176,27 +211,47 @@ walk_more (c ∷ front) b from s to w e = at (atom.step true from (sign_of c)) w
 
 -- what is left behind the step is what was left, with the byte in front
 abbrev pub Keeps : ℕ → List ℕ → State → Option State → Type 0
-Keeps b xs s o = MatchOption o (Unit {0}) (λ u. (i : Input) → Rest u i xs → Rest s i (b ∷ xs))
+Keeps b xs s o = MatchOption o (Unit {0}) (λ u. (i : Written) → Rest u i xs → Rest s i (b ∷ xs))
 
-keeps_if : (b : ℕ) (xs : List ℕ) (s u : State) (c : Bool) → (c ≡ true → (i : Input) → Rest u i xs → Rest s i (b ∷ xs)) → Keeps b xs s (cond c (Some u) None)
+keeps_if : (b : ℕ) (xs : List ℕ) (s u : State) (c : Bool) → (c ≡ true → (i : Written) → Rest u i xs → Rest s i (b ∷ xs)) → Keeps b xs s (cond c (Some u) None)
 keeps_if b xs s u true h = h refl
 keeps_if b xs s u false h = tt
 
-digit_first : (k : Kind) (b d : ℕ) (xs : List ℕ) → Tells b (Digit d) → (i : Input) → (d < 2 ^ 62 → Timed k i d xs) → Blanked (TimeHere k i) (b ∷ xs)
-digit_first k b d xs h i r =
+rest_spelled : (bytes : List ℕ) (s : State) (i : Written) (xs : List ℕ) → Rest (spell bytes s) i xs → Spelled (Rest s i) bytes xs
+rest_spelled [] s i xs r = record { back = xs; text = refl; next = r }
+rest_spelled (c ∷ bytes) s i xs r = r
+
+spelled_more : (b c : ℕ) (bytes : List ℕ) (s : State) (i : Written) (xs : List ℕ) → (b == c) ≡ true → Rest (spell bytes s) i xs → Spelled (Rest s i) (c ∷ bytes) (b ∷ xs)
+spelled_more b c bytes s i xs e r =
+    let q = rest_spelled bytes s i xs r in
+    record { back = q.back; text = ap (λ y. y ∷ xs) (eqb-true b c e) ∙ ap (λ y. c ∷ y) q.text; next = q.next }
+
+word_first : (b : ℕ) (xs word : List ℕ) (w : Written) → ((line : List ℕ) → OfWord word line → HasForm line w) → Keeps b xs Front (first_of word (End w) b)
+word_first b xs [] w form = tt
+word_first b xs (c ∷ bytes) w form = keeps_if b xs Front (spell bytes (End w)) (b == c) (λ e i r.
+    let q = spelled_more b c bytes (End w) i xs e r in
+    subst (HasForm (b ∷ xs)) q.next.1 (form (b ∷ xs) (record { front = []; end = q.back; front_blank = refl; end_blank = q.next.0; text = q.text })))
+
+words : (b : ℕ) (xs : List ℕ) → Keeps b xs Front (in_word b)
+words b xs =
+    elim (b == letter_c) as (λ t. Keeps b xs Front (cond t (first_of commit_word (End CommitLine) b) (first_of begin_word (End BeginLine) b)))
+    [ true ↦ word_first b xs commit_word CommitLine (λ line r. r) | false ↦ word_first b xs begin_word BeginLine (λ line r. r) ]
+
+digit_first : (P : ℕ → List ℕ → Type 0) (b d : ℕ) (xs : List ℕ) → Tells b (Digit d) → (d < TIME_LIMIT → Timed P d xs) → TimeHere P (b ∷ xs)
+digit_first P b d xs h r =
     let t = r (omega (arith, h.2)) in
     let z : 0 * 10 + digit_value b ≡ d = omega (arith, h.1) in
-    blanked_none (TimeHere k i) (b ∷ xs) (record {
+    record {
       digits = b ∷ t.more;
       back = t.back;
       time = t.time;
       is_time = record { digits = and_from _ _ h.0 t.digits; some = λ e. cc; value = ap (λ n. digits_value_after 10 n t.more) z ∙ t.value; small = t.small };
       text = ap (λ y. b ∷ y) t.text;
       behind = t.behind;
-    })
+    }
 
-digit_more : (k : Kind) (n b d : ℕ) (xs : List ℕ) → Tells b (Digit d) → n * 10 + d < 2 ^ 62 → (i : Input) → (n * 10 + d < 2 ^ 62 → Timed k i (n * 10 + d) xs) → Timed k i n (b ∷ xs)
-digit_more k n b d xs h small i r =
+digit_more : (P : ℕ → List ℕ → Type 0) (n b d : ℕ) (xs : List ℕ) → Tells b (Digit d) → n * 10 + d < TIME_LIMIT → (n * 10 + d < TIME_LIMIT → Timed P (n * 10 + d) xs) → Timed P n (b ∷ xs)
+digit_more P n b d xs h small r =
     let t = r small in
     record {
       more = b ∷ t.more;
@@ -209,18 +264,28 @@ digit_more k n b d xs h small i r =
       behind = t.behind;
     }
 
-time_over : (k : Kind) (n b : ℕ) (xs : List ℕ) (i : Input) → is_blank b ≡ true → n < 2 ^ 62 → Rest (behind_time k n) i xs → Timed k i n (b ∷ xs)
-time_over (way.Kind.OfEvent w) n b xs i h small r = record { more = []; back = b ∷ xs; time = n; digits = refl; value = refl; small = small; text = refl; behind = blanked_gap (Atomed w n i []) b xs h r }
-time_over way.Kind.OfTime n b xs i h small r = record { more = []; back = b ∷ xs; time = n; digits = refl; value = refl; small = small; text = refl; behind = (and_from _ _ h r.0, r.1) }
+-- no digit more
+timed_none : (P : ℕ → List ℕ → Type 0) (n : ℕ) (xs : List ℕ) → n < TIME_LIMIT → P n xs → Timed P n xs
+timed_none P n xs small p = record { more = []; back = xs; time = n; digits = refl; value = refl; small = small; text = refl; behind = p }
 
-atom_first : (w : Way) (n b : ℕ) (xs : List ℕ) (o : Option atom.State) → atom.step true Begin (sign_of b) ≡ o → Keeps b xs (Wait w n) (in_atom w n o)
+behind_blank : (k : Kind) (n b : ℕ) (xs : List ℕ) (i : Written) → is_blank b ≡ true → Rest (behind_time k n) i xs → Behind k i n (b ∷ xs)
+behind_blank (way.Kind.OfEvent w) n b xs i h r = inl (blanked_gap (Atomed w (At n) i []) b xs h r)
+behind_blank (way.Kind.OfSecond w start) n b xs i h r = blanked_gap (Atomed w (Between start n) i []) b xs h r
+behind_blank way.Kind.OfTime n b xs i h r = (and_from _ _ h r.0, r.1)
+
+stop_first : (k : Kind) (n b : ℕ) (xs : List ℕ) → b ≡ stop → Keeps b xs (Digits k n) (behind_stop k n)
+stop_first (way.Kind.OfEvent w) n b xs h = λ i r small.
+    timed_none (Behind (way.Kind.OfEvent w) i) n (b ∷ xs) small (inr (record { back = r.back; text = ap (λ y. y ∷ xs) h ∙ ap (λ y. stop ∷ y) r.text; next = r.next }))
+stop_first k n b xs h = tt
+
+atom_first : (w : Way) (n : When) (b : ℕ) (xs : List ℕ) (o : Option atom.State) → atom.step true Begin (sign_of b) ≡ o → Keeps b xs (Wait w n) (in_atom w n o)
 unfolding signs
 atom_first w n b xs None e = tt
 atom_first w n b xs (Some s) e = λ i r.
     let a = r (b ∷ []) (ap (option_and_then (walk true [])) e) in
     blanked_none (Atomed w n i []) (b ∷ xs) (record { more = b ∷ a.more; end = a.end; atom = a.atom; is_atom = a.is_atom; end_blank = a.end_blank; text = ap (λ y. b ∷ y) a.text; says = a.says })
 
-atom_over : (w : Way) (n : ℕ) (s : atom.State) (b : ℕ) (xs : List ℕ) (p : Part) (o : Option Tree) → Tells b p → atom.said s ≡ o → Keeps b xs (InAtom w n s) (over w n p o)
+atom_over : (w : Way) (n : When) (s : atom.State) (b : ℕ) (xs : List ℕ) (p : Part) (o : Option Tree) → Tells b p → atom.said s ≡ o → Keeps b xs (InAtom w n s) (over w n p o)
 atom_over w n s b xs Blank (Some t) h e = λ i r front f. record {
   more = [];
   end = b ∷ xs;
@@ -232,7 +297,7 @@ atom_over w n s b xs Blank (Some t) h e = λ i r front f. record {
 }
 atom_over w n s b xs p o h e = tt
 
-atom_more : (w : Way) (n : ℕ) (s : atom.State) (b : ℕ) (xs : List ℕ) (p : Part) (u : Option atom.State) → Tells b p → atom.step true s (sign_of b) ≡ u → Keeps b xs (InAtom w n s) (atom_on w n p (atom.said s) u)
+atom_more : (w : Way) (n : When) (s : atom.State) (b : ℕ) (xs : List ℕ) (p : Part) (u : Option atom.State) → Tells b p → atom.step true s (sign_of b) ≡ u → Keeps b xs (InAtom w n s) (atom_on w n p (atom.said s) u)
 atom_more w n s b xs p None h e = atom_over w n s b xs p (atom.said s) h refl
 atom_more w n s b xs p (Some u) h e = λ i r front f.
     let a = r (front ++ b ∷ []) (walk_more front b Begin s u f e) in
@@ -246,22 +311,26 @@ atom_more w n s b xs p (Some u) h e = λ i r front f.
       says = a.says;
     }
 
-keeps : (s : State) (p : Part) (b : ℕ) (xs : List ℕ) → Tells b p → Keeps b xs s (go s p (sign_of b))
-unfolding mark_of
+keeps : (s : State) (p : Part) (b : ℕ) (xs : List ℕ) → Tells b p → Keeps b xs s (go s p b)
 keeps Front Blank b xs h = λ i r. front_more b xs i h r
 keeps Front Hash b xs h = λ i r. subst (HasForm (b ∷ xs)) r (inr (record { front = []; back = xs; front_blank = refl; text = ap (λ y. y ∷ xs) h }))
-keeps Front Plus b xs h = λ i r. event_form Adds i b xs h r
-keeps Front Minus b xs h = λ i r. event_form Takes i b xs h r
+keeps Front Plus b xs h = λ i r. event_form Comes i b xs h r
+keeps Front Minus b xs h = λ i r. event_form Retracted i b xs h r
 keeps Front Bang b xs h = λ i r. subst (λ y. HasForm (y ∷ xs) i) (sym h) (time_form i xs r)
+keeps Front Other b xs h = words b xs
 keeps Front p b xs h = tt
 keeps Note p b xs h = λ i r. r
-keeps (Mark k) Blank b xs h = λ i r. blanked_gap (TimeHere k i) b xs h r
+keeps (Spell c bytes s) p b xs h = keeps_if b xs (Spell c bytes s) (spell bytes s) (b == c) (λ e i r. spelled_more b c bytes s i xs e r)
+keeps (Mark k) Blank b xs h = λ i r. blanked_gap (TimeHere (Behind k i)) b xs h r
 keeps (Mark k) p b xs h = tt
-keeps (Gap k) Blank b xs h = λ i r. blanked_more (TimeHere k i) b xs h r
-keeps (Gap k) (Digit d) b xs h = λ i r. digit_first k b d xs h i r
+keeps (Gap k) Blank b xs h = λ i r. blanked_more (TimeHere (Behind k i)) b xs h r
+keeps (Gap k) (Digit d) b xs h = λ i r. blanked_none (TimeHere (Behind k i)) (b ∷ xs) (digit_first (Behind k i) b d xs h r)
 keeps (Gap k) p b xs h = tt
-keeps (Digits k n) Blank b xs h = λ i r small. time_over k n b xs i h small r
-keeps (Digits k n) (Digit d) b xs h = keeps_if b xs (Digits k n) (Digits k (n * 10 + d)) (nat_lt (n * 10 + d) (2 ^ 62)) (λ e i r small. digit_more k n b d xs h (ltb-true (n * 10 + d) (2 ^ 62) e) i r)
+keeps (Start k) (Digit d) b xs h = λ i r. digit_first (Behind k i) b d xs h r
+keeps (Start k) p b xs h = tt
+keeps (Digits k n) Blank b xs h = λ i r small. timed_none (Behind k i) n (b ∷ xs) small (behind_blank k n b xs i h r)
+keeps (Digits k n) (Digit d) b xs h = keeps_if b xs (Digits k n) (Digits k (n * 10 + d)) (nat_lt (n * 10 + d) TIME_LIMIT) (λ e i r small. digit_more (Behind k i) n b d xs h (ltb-true (n * 10 + d) TIME_LIMIT e) r)
+keeps (Digits k n) Stop b xs h = stop_first k n b xs h
 keeps (Digits k n) p b xs h = tt
 keeps (Wait w n) Blank b xs h = λ i r. blanked_more (Atomed w n i []) b xs h r
 keeps (Wait w n) p b xs h = atom_first w n b xs (atom.step true Begin (sign_of b)) refl
@@ -270,10 +339,10 @@ keeps (End j) Blank b xs h = λ i r. (and_from _ _ h r.0, r.1)
 keeps (End j) p b xs h = tt
 
 -- where the line may end nothing is left
-abbrev pub Closes : State → Option Input → Type 0
+abbrev pub Closes : State → Option Written → Type 0
 Closes s o = MatchOption o (Unit {0}) (λ i. Rest s i [])
 
-closes_atom : (w : Way) (n : ℕ) (s : atom.State) (o : Option Tree) → atom.said s ≡ o → Closes (InAtom w n s) (option_map (λ t. of_event w n (atom_value t)) o)
+closes_atom : (w : Way) (n : When) (s : atom.State) (o : Option Tree) → atom.said s ≡ o → Closes (InAtom w n s) (option_map (λ t. EventLine w n (atom_value t)) o)
 closes_atom w n s None e = tt
 closes_atom w n s (Some t) e = λ front f. record {
   more = [];
@@ -288,7 +357,7 @@ closes_atom w n s (Some t) e = λ front f. record {
 closes : (s : State) → Closes s (accepted s)
 closes Front = inl refl
 closes Note = refl
-closes (Digits way.Kind.OfTime n) = λ small. record { more = []; back = []; time = n; digits = refl; value = refl; small = small; text = refl; behind = (refl, refl) }
+closes (Digits way.Kind.OfTime n) = λ small. timed_none (Behind way.Kind.OfTime (AdvanceLine n)) n [] small (refl, refl)
 closes (InAtom w n s) = closes_atom w n s (atom.said s) refl
 closes (End i) = (refl, refl)
 closes s = tt
@@ -296,19 +365,19 @@ closes s = tt
 -- ---- a run of the machine
 
 -- the input, where the line ends behind these bytes
-abbrev pub final : List ℕ → State → Option Input
+abbrev pub final : List ℕ → State → Option Written
 final [] s = accepted s
 final (b ∷ xs) s = option_and_then (final xs) (step s b)
 
-closed : (s : State) (i : Input) (o : Option Input) → Closes s o → o ≡ Some i → Rest s i []
+closed : (s : State) (i : Written) (o : Option Written) → Closes s o → o ≡ Some i → Rest s i []
 closed s i None c e = cc
 closed s i (Some j) c e = let same : j ≡ i = cc in subst (λ i. Rest s i []) same c
 
 -- what the machine takes has the form that its state leaves
-pub sound : (xs : List ℕ) (s : State) (i : Input) → final xs s ≡ Some i → Rest s i xs
+pub sound : (xs : List ℕ) (s : State) (i : Written) → final xs s ≡ Some i → Rest s i xs
 sound [] s i e = closed s i (accepted s) (closes s) e
 sound (b ∷ xs) s i e = at (step s b) (keeps s (part_of b) b xs (part_tells b)) e (sound xs)
   where
-    at : (o : Option State) → Keeps b xs s o → option_and_then (final xs) o ≡ Some i → ((s : State) (i : Input) → final xs s ≡ Some i → Rest s i xs) → Rest s i (b ∷ xs)
+    at : (o : Option State) → Keeps b xs s o → option_and_then (final xs) o ≡ Some i → ((s : State) (i : Written) → final xs s ≡ Some i → Rest s i xs) → Rest s i (b ∷ xs)
     at None k e h = cc
     at (Some u) k e h = k i (h u i e)

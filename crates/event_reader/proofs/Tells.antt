@@ -5,20 +5,22 @@ use Rattle.std.specs.Char.{digit_value}
 use Rattle.std.specs.Int.{IsInRange}
 use Rattle.std.proofs.lemmas.Bool.{leb-true, eqb-true, and_parts, or_cases, cond-true, cond-false, ne_eqb, or_from}
 use Rattle.std.proofs.lemmas.Str.{digit_value_digit}
+use Rattle.ev_term.specs.Bytes.{plus, minus, bang, hash, stop}
 use Rattle.term_reader.specs.declared.signs.Sign.TheVariants.{Space, Tab}
 use Rattle.term_reader.specs.Signs.{sign_of}
 use Rattle.event_reader.specs.declared.parts.Part.{Part}
-use Rattle.event_reader.specs.declared.parts.Part.TheVariants.{Blank, Digit, Plus, Minus, Bang, Hash, Other}
+use Rattle.event_reader.specs.declared.parts.Part.TheVariants.{Blank, Digit, Plus, Minus, Bang, Hash, Stop, Other}
 use Rattle.event_reader.specs.EventLines.{is_blank, is_digit}
 use Rattle.event_reader.specs.Machine.{part_of}
 
 abbrev pub Tells : ℕ → Part → Type 0
 Tells b Blank = is_blank b ≡ true
 Tells b (Digit d) = (is_digit b ≡ true) × (digit_value b ≡ d) × (d < 10)
-Tells b Plus = b ≡ 43
-Tells b Minus = b ≡ 45
-Tells b Bang = b ≡ 33
-Tells b Hash = b ≡ 35
+Tells b Plus = b ≡ plus
+Tells b Minus = b ≡ minus
+Tells b Bang = b ≡ bang
+Tells b Hash = b ≡ hash
+Tells b Stop = b ≡ stop
 Tells b Other = Unit {0}
 
 by_test : (P : Part → Type 0) (c : Bool) (s u : Part) → (c ≡ true → P s) → P u → P (cond c s u)
@@ -40,10 +42,11 @@ pub part_tells : (b : ℕ) → Tells b (part_of b)
 part_tells b =
     by_test (Tells b) (is_blank b) _ _ (λ e. e) (
     by_test (Tells b) (is_digit b) _ _ (digit_tells b) (
-    by_test (Tells b) (b == 43) _ _ (eqb-true b 43) (
-    by_test (Tells b) (b == 45) _ _ (eqb-true b 45) (
-    by_test (Tells b) (b == 33) _ _ (eqb-true b 33) (
-    by_test (Tells b) (b == 35) _ _ (eqb-true b 35) tt)))))
+    by_test (Tells b) (b == plus) _ _ (eqb-true b plus) (
+    by_test (Tells b) (b == minus) _ _ (eqb-true b minus) (
+    by_test (Tells b) (b == bang) _ _ (eqb-true b bang) (
+    by_test (Tells b) (b == hash) _ _ (eqb-true b hash) (
+    by_test (Tells b) (b == stop) _ _ (eqb-true b stop) tt))))))
 
 pub part_blank : (b : ℕ) → is_blank b ≡ true → part_of b ≡ Blank
 part_blank b e = cond-true (is_blank b) Blank _ e

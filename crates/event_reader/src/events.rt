@@ -1,10 +1,11 @@
 // Events.
 ghost use Rattle.std.specs.Prelude.{◌≡◌, ◌≤◌, false, length, drop};
-ghost use Rattle.event_reader.specs.Reads.{AtomAt, EventAt, begins, is_blank};
+ghost use Rattle.event_reader.specs.Reads.{AtomAt, EventAt, begins, is_blank_part};
 
 use crate::faults::LineFault;
 use crate::peeking::gap_end;
-use crate::times::{end_at, time_at};
+use crate::times::end_at;
+use crate::whens::times_at;
 use ev_term::{Atom, Event};
 use std::alloc::Global;
 use term_reader::read_atom;
@@ -12,7 +13,7 @@ use term_reader::read_atom;
 // The atom that stands at a place, and the place behind it.
 fn atom_at(alloc: Global, line: &[u8], at: usize) -> Result<(Atom, usize), LineFault>
     requires inside { at ≤ length line.now }
-    requires dark { begins is_blank (drop at line.now) ≡ false }
+    requires dark { begins is_blank_part (drop at line.now) ≡ false }
     ensures { AtomAt line.now at result }
 {
     match read_atom(alloc, line, at) {
@@ -26,11 +27,12 @@ pub(crate) fn event_at(alloc: Global, line: &[u8], at: usize) -> Result<Event, L
     requires { at ≤ length line.now }
     ensures { EventAt line.now at result }
 {
-    let (time, end) = time_at(line, at)?;
+    let (times, end) = times_at(line, at)?;
     let Some(start) = gap_end(line, end) else {
         return Err(LineFault::Syntax(end));
     };
     let (atom, end) = atom_at(alloc, line, start)?;
     end_at(line, end)?;
-    Ok(Event::new(time, atom))
+    let span = times.span()?;
+    Ok(Event { span, atom })
 }

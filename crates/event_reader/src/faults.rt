@@ -6,7 +6,7 @@ use thiserror::Error;
 /// Why a line isn't read.
 #[derive(Debug, Drop, Error)]
 pub enum LineFault {
-    /// From this place on no line of the grammar goes so.
+    /// From this place on no line of the grammar goes so, or here begins a second time that is less than the first.
     #[error("syntax at {0}")]
     Syntax(usize),
     #[error("out of memory")]

@@ -7,6 +7,8 @@ mod parts;
 mod peeking;
 mod reading;
 mod times;
+mod whens;
+mod words;
 
 pub use ev_term::{Input, Judgement};
 pub use faults::LineFault;

@@ -11,6 +11,7 @@ pub(crate) enum Part {
     Minus,
     Bang,
     Hash,
+    Stop,
     Other,
 }
 
@@ -25,6 +26,7 @@ pub(crate) fn classify(byte: u8) -> Part
         b'-' => Part::Minus,
         b'!' => Part::Bang,
         b'#' => Part::Hash,
+        b'.' => Part::Stop,
         _ => {
             if byte >= b'0' && byte <= b'9' {
                 Part::Digit(byte - b'0')

@@ -1,6 +1,6 @@
 // The part at a place of the line, and blanks.
 ghost use Rattle.std.specs.Prelude.{◌≡◌, ◌≤◌, false, length, drop};
-ghost use Rattle.event_reader.specs.Reads.{MaybePart, MaybeDigit, BlanksRead, MaybeGap, begins, is_blank};
+ghost use Rattle.event_reader.specs.Reads.{MaybePart, MaybeByte, MaybeDigit, BlanksRead, MaybeGap, begins, is_blank_part};
 
 use crate::parts::{Part, classify};
 
@@ -13,6 +13,14 @@ pub(crate) fn part_at(line: &[u8], at: usize) -> Option<Part>
         return None;
     }
     Some(classify(line[at]))
+}
+
+/// Whether the byte stands at the place.
+pub(crate) fn stands_at(line: &[u8], at: usize, byte: u8) -> bool
+    requires { at ≤ length line.now }
+    ensures { MaybeByte line.now at byte result }
+{
+    at < line.len() && line[at] == byte
 }
 
 /// The value of the digit that stands at the place.
@@ -30,7 +38,7 @@ pub(crate) fn digit_at(line: &[u8], at: usize) -> Option<u8>
 pub(crate) fn blanks_end(line: &[u8], at: usize) -> usize
     requires { at ≤ length line.now }
     ensures read { BlanksRead line.now at result }
-    ensures over { begins is_blank (drop result line.now) ≡ false }
+    ensures over { begins is_blank_part (drop result line.now) ≡ false }
 {
     let mut end = at;
     while let Some(Part::Blank) = part_at(line, end) {

@@ -10,7 +10,8 @@ use crate::faults::LineFault;
 use crate::parts::Part;
 use crate::peeking::{blanks_end, part_at};
 use crate::times::advance_at;
-use ev_term::Input;
+use crate::words::word_at;
+use ev_term::{Input, MOST_LINE_BYTES};
 use std::alloc::Global;
 
 // The input of a line of any length.
@@ -24,13 +25,15 @@ fn line_input(alloc: Global, line: &[u8]) -> Result<Input, LineFault>
         Some(Part::Plus) => Ok(Input::Add(event_at(alloc, line, start + 1)?)),
         Some(Part::Minus) => Ok(Input::Take(event_at(alloc, line, start + 1)?)),
         Some(Part::Bang) => Ok(Input::Advance(advance_at(line, start + 1)?)),
+        Some(Part::Other) => word_at(line, start),
         Some(_) => Err(LineFault::Syntax(start)),
     }
 }
 
-/// Reads a line, which comes without its line feed: the input that it says, or the place from which on no line goes so.
+/// Reads a line, which comes without its line feed: the input that it says, or the place from which on no line goes so. Where its first
+/// time is greater than the second, the fault is at the second.
 pub fn parse_line(alloc: Global, line: &[u8]) -> Result<Input, LineFault>
-    requires { length line.now ≤ 65536 }
+    requires { length line.now ≤ MOST_LINE_BYTES }
     ensures { Heard line.now result }
 {
     line_input(alloc, line)

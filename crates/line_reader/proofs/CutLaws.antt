@@ -2,11 +2,12 @@
 use Rattle.std.proofs.Common.{◌≡◌, ℕ, Bool, true, false, cond, ◌==◌, ◌||◌, List, [], ◌∷◌, ◌++◌, map, refl, ap, sym, ◌∙◌, append-nil, append_assoc}
 use Rattle.std.specs.List.{list_any}
 use Rattle.std.proofs.lemmas.List.Folds.{list_any-append}
+use Rattle.ev_term.specs.Bytes.{feed}
 use Rattle.ev_term.specs.Lines.{without_cr, ended_from, rest_from, ended, rest, last_line, lines_of}
 use Rattle.line_reader.specs.Cutting.{NoFeed, AreLines, with_feeds}
 
 abbrev is_feed : ℕ → Bool
-is_feed b = b == 10
+is_feed b = b == feed
 
 neither : (t u : Bool) → (t || u) ≡ false → (t ≡ false) × (u ≡ false)
 neither true u e = (e, grind_false u e)
@@ -16,8 +17,11 @@ neither true u e = (e, grind_false u e)
 neither false u e = (refl, e)
 
 -- the first of bytes without a line feed is none, and none is among the others
-pub no_feed-parts : (b : ℕ) (bytes : List ℕ) → NoFeed (b ∷ bytes) → ((b == 10) ≡ false) × NoFeed bytes
-no_feed-parts b bytes h = neither (b == 10) (list_any is_feed bytes) h
+pub no_feed-parts : (b : ℕ) (bytes : List ℕ) → NoFeed (b ∷ bytes) → ((b == feed) ≡ false) × NoFeed bytes
+no_feed-parts b bytes h = neither (b == feed) (list_any is_feed bytes) h
+
+pub no_feed-front : (xs ys : List ℕ) → NoFeed (xs ++ ys) → NoFeed xs
+no_feed-front xs ys h = (neither (list_any is_feed xs) (list_any is_feed ys) (sym (list_any-append is_feed xs ys) ∙ h)).0
 
 pub no_feed-append : (xs ys : List ℕ) → NoFeed xs → NoFeed ys → NoFeed (xs ++ ys)
 no_feed-append xs ys h k = list_any-append is_feed xs ys ∙ ap (λ t. t || list_any is_feed ys) h ∙ k
@@ -38,11 +42,11 @@ rest_from-part part (b ∷ bytes) more h =
     ∙ rest_from-part (part ++ b ∷ []) bytes more p.1 ∙ ap (λ l. rest_from l more) (append_assoc part (b ∷ []) bytes)
 
 -- a line feed ends the first line
-pub ended-line : (raw more : List ℕ) → NoFeed raw → ended (raw ++ 10 ∷ more) ≡ without_cr raw ∷ ended more
-ended-line raw more h = ended_from-part [] raw (10 ∷ more) h
+pub ended-line : (raw more : List ℕ) → NoFeed raw → ended (raw ++ feed ∷ more) ≡ without_cr raw ∷ ended more
+ended-line raw more h = ended_from-part [] raw (feed ∷ more) h
 
-pub rest-line : (raw more : List ℕ) → NoFeed raw → rest (raw ++ 10 ∷ more) ≡ rest more
-rest-line raw more h = rest_from-part [] raw (10 ∷ more) h
+pub rest-line : (raw more : List ℕ) → NoFeed raw → rest (raw ++ feed ∷ more) ≡ rest more
+rest-line raw more h = rest_from-part [] raw (feed ∷ more) h
 
 -- without a line feed no line is ended
 pub ended-open : (bytes : List ℕ) → NoFeed bytes → ended bytes ≡ []
@@ -60,9 +64,9 @@ rest-front part piece h = sym (rest_from-part [] part piece h)
 
 no_feed-rest_from : (part bytes : List ℕ) → NoFeed part → NoFeed (rest_from part bytes)
 no_feed-rest_from part [] h = h
-no_feed-rest_from part (b ∷ bytes) h = at (b == 10) refl (no_feed-rest_from [] bytes refl) (no_feed-rest_from (part ++ b ∷ []) bytes)
+no_feed-rest_from part (b ∷ bytes) h = at (b == feed) refl (no_feed-rest_from [] bytes refl) (no_feed-rest_from (part ++ b ∷ []) bytes)
   where
-    at : (t : Bool) → (b == 10) ≡ t → NoFeed (rest_from [] bytes) → (NoFeed (part ++ b ∷ []) → NoFeed (rest_from (part ++ b ∷ []) bytes))
+    at : (t : Bool) → (b == feed) ≡ t → NoFeed (rest_from [] bytes) → (NoFeed (part ++ b ∷ []) → NoFeed (rest_from (part ++ b ∷ []) bytes))
         → NoFeed (cond t (rest_from [] bytes) (rest_from (part ++ b ∷ []) bytes))
     at true e behind longer = behind
     at false e behind longer = longer (no_feed-append part (b ∷ []) h (ap (λ t. t || false) e))
@@ -75,8 +79,8 @@ pub lines_of-given : (raws : List (List ℕ)) (left : List ℕ) → AreLines raw
 lines_of-given [] left all h = ap (λ l. l ++ last_line (rest left)) (ended-open left h) ∙ ap last_line (rest-open left h)
 lines_of-given (raw ∷ raws) left all h =
     let more : List ℕ = with_feeds raws ++ left in
-    let same : with_feeds (raw ∷ raws) ++ left ≡ raw ++ 10 ∷ more = append_assoc (raw ++ 10 ∷ []) (with_feeds raws) left ∙ append_assoc raw (10 ∷ []) more in
-    ap lines_of same ∙ ap (λ l. l ++ last_line (rest (raw ++ 10 ∷ more))) (ended-line raw more all.0) ∙ ap (λ l. without_cr raw ∷ (ended more ++ last_line l)) (rest-line raw more all.0)
+    let same : with_feeds (raw ∷ raws) ++ left ≡ raw ++ feed ∷ more = append_assoc (raw ++ feed ∷ []) (with_feeds raws) left ∙ append_assoc raw (feed ∷ []) more in
+    ap lines_of same ∙ ap (λ l. l ++ last_line (rest (raw ++ feed ∷ more))) (ended-line raw more all.0) ∙ ap (λ l. without_cr raw ∷ (ended more ++ last_line l)) (rest-line raw more all.0)
     ∙ ap (λ l. without_cr raw ∷ l) (lines_of-given raws left all.1 h)
 
 -- ---- what was fed is the lines given, each with its line feed, and what is held
@@ -86,12 +90,12 @@ pub fed_more : (all piece held : List ℕ) (raws : List (List ℕ)) → all ≡ 
 fed_more all piece held raws e = ap (λ l. l ++ piece) e ∙ append_assoc (with_feeds raws) held piece
 
 -- a line that is given goes from what is held to the lines given
-pub given_more : (all held raw more : List ℕ) (raws : List (List ℕ)) → all ≡ with_feeds raws ++ held → held ≡ raw ++ 10 ∷ more → all ≡ with_feeds (raws ++ raw ∷ []) ++ more
+pub given_more : (all held raw more : List ℕ) (raws : List (List ℕ)) → all ≡ with_feeds raws ++ held → held ≡ raw ++ feed ∷ more → all ≡ with_feeds (raws ++ raw ∷ []) ++ more
 given_more all held raw more raws e f = e ∙ ap (λ l. with_feeds raws ++ l) f ∙ sym (moved raws)
   where
-    moved : (raws : List (List ℕ)) → with_feeds (raws ++ raw ∷ []) ++ more ≡ with_feeds raws ++ (raw ++ 10 ∷ more)
-    moved [] = append_assoc (raw ++ 10 ∷ []) [] more ∙ append_assoc raw (10 ∷ []) more
-    moved (r ∷ rs) = append_assoc (r ++ 10 ∷ []) (with_feeds (rs ++ raw ∷ [])) more ∙ ap (λ l. r ++ 10 ∷ [] ++ l) (moved rs) ∙ sym (append_assoc (r ++ 10 ∷ []) (with_feeds rs) (raw ++ 10 ∷ more))
+    moved : (raws : List (List ℕ)) → with_feeds (raws ++ raw ∷ []) ++ more ≡ with_feeds raws ++ (raw ++ feed ∷ more)
+    moved [] = append_assoc (raw ++ feed ∷ []) [] more ∙ append_assoc raw (feed ∷ []) more
+    moved (r ∷ rs) = append_assoc (r ++ feed ∷ []) (with_feeds (rs ++ raw ∷ [])) more ∙ ap (λ l. r ++ feed ∷ [] ++ l) (moved rs) ∙ sym (append_assoc (r ++ feed ∷ []) (with_feeds rs) (raw ++ feed ∷ more))
 
 pub lines_more : (raw : List ℕ) (raws : List (List ℕ)) → AreLines raws → NoFeed raw → AreLines (raws ++ raw ∷ [])
 lines_more raw [] all h = (h, tt)

@@ -1,77 +1,108 @@
 -- Bytes with their lines cut, and how many stand behind the last line feed.
-use Rattle.std.proofs.Common.{not, get_or, Some, None, MatchOption, ◌≡◌, ℕ, suc, zero, ◌+◌, ◌<◌, ◌≤◌, Bool, true, false, cond, ◌==◌, ◌||◌, ltb, List, [], ◌∷◌, ◌++◌, length, take, drop, refl, ap, sym, subst, ◌∙◌, arith, true≢false, take_all, length-take-le, lit<}
+use Rattle.std.proofs.Common.{not, get_or, Some, None, MatchOption, ◌≡◌, ℕ, suc, zero, ◌+◌, ◌<◌, ◌≤◌, Bool, true, false, cond, ◌==◌, ◌||◌, ltb, List, [], ◌∷◌, ◌++◌, length, take, drop, refl, ap, sym, subst, ◌∙◌, arith, true≢false, take_all, length-take-le, length-append}
 use Rattle.std.specs.List.{list_any, position, position_or_len}
 use Rattle.std.proofs.Math.Numerals.{one-add}
 use Rattle.std.proofs.lemmas.Bool.{eqb-true}
 use Rattle.std.proofs.lemmas.List.Quantifiers.{position-Some}
 use Rattle.std.proofs.lemmas.List.Sums.{split_at_first}
+use Rattle.ev_term.specs.Bytes.{feed}
 use Rattle.ev_term.specs.Lines.{without_cr}
 use Rattle.line_reader.specs.declared.reading.Line.{Line}
 use Rattle.line_reader.specs.declared.reading.Line.TheVariants.{Bytes, Long}
 use Rattle.line_reader.specs.Cutting.{NoFeed, IsLine}
-use Rattle.line_reader.specs.Keeping.{clipped_from, open_from, IsFirstFeed}
+use Rattle.line_reader.specs.Keeping.{most_kept, passed_mark, kept_byte, clipped_from, open_from, IsFirstFeed}
 use Rattle.line_reader.proofs.CutLaws.{no_feed-parts}
 
 abbrev is_feed : ℕ → Bool
-is_feed b = b == 10
+is_feed b = b == feed
 
 -- ---- cut lines
 
--- cutting lines takes no line feed away
+kept_plain : (n b : ℕ) → (b == feed) ≡ false → (kept_byte n b == feed) ≡ false
+kept_plain n b e = elim (n == most_kept) as (λ t. (cond t passed_mark b == feed) ≡ false) [ true ↦ refl | false ↦ e ]
+
+-- cutting lines removes no line feed
 pub any-clipped : (n : ℕ) (bytes : List ℕ) → list_any is_feed (clipped_from n bytes) ≡ list_any is_feed bytes
 any-clipped n [] = refl
-any-clipped n (b ∷ bytes) = at (b == 10) refl (ltb n 65538) (any-clipped 0 bytes) (any-clipped (n + 1) bytes) (any-clipped n bytes)
+any-clipped n (b ∷ bytes) = at (b == feed) refl (ltb n (most_kept + 1)) (any-clipped 0 bytes) (any-clipped (n + 1) bytes) (any-clipped n bytes)
   where
-    at : (t : Bool) → (b == 10) ≡ t → (u : Bool)
+    at : (t : Bool) → (b == feed) ≡ t → (u : Bool)
         → list_any is_feed (clipped_from 0 bytes) ≡ list_any is_feed bytes
         → list_any is_feed (clipped_from (n + 1) bytes) ≡ list_any is_feed bytes
         → list_any is_feed (clipped_from n bytes) ≡ list_any is_feed bytes
-        → list_any is_feed (cond t (b ∷ clipped_from 0 bytes) (cond u (b ∷ clipped_from (n + 1) bytes) (clipped_from n bytes))) ≡ (t || list_any is_feed bytes)
+        → list_any is_feed (cond t (b ∷ clipped_from 0 bytes) (cond u (kept_byte n b ∷ clipped_from (n + 1) bytes) (clipped_from n bytes))) ≡ (t || list_any is_feed bytes)
     at true e u first next over = ap (λ t. t || list_any is_feed (clipped_from 0 bytes)) e
-    at false e true first next over = ap (λ t. t || list_any is_feed (clipped_from (n + 1) bytes)) e ∙ next
+    at false e true first next over = ap (λ t. t || list_any is_feed (clipped_from (n + 1) bytes)) (kept_plain n b e) ∙ next
     at false e false first next over = over
 
 pub clipped-append : (n : ℕ) (xs ys : List ℕ) → clipped_from n (xs ++ ys) ≡ clipped_from n xs ++ clipped_from (open_from n (clipped_from n xs)) ys
 clipped-append n [] ys = refl
-clipped-append n (b ∷ xs) ys = at (b == 10) refl (ltb n 65538) (clipped-append 0 xs ys) (clipped-append (n + 1) xs ys) (clipped-append n xs ys)
+clipped-append n (b ∷ xs) ys = at (b == feed) refl (ltb n (most_kept + 1)) (clipped-append 0 xs ys) (clipped-append (n + 1) xs ys) (clipped-append n xs ys)
   where
-    at : (t : Bool) → (b == 10) ≡ t → (u : Bool)
+    at : (t : Bool) → (b == feed) ≡ t → (u : Bool)
         → clipped_from 0 (xs ++ ys) ≡ clipped_from 0 xs ++ clipped_from (open_from 0 (clipped_from 0 xs)) ys
         → clipped_from (n + 1) (xs ++ ys) ≡ clipped_from (n + 1) xs ++ clipped_from (open_from (n + 1) (clipped_from (n + 1) xs)) ys
         → clipped_from n (xs ++ ys) ≡ clipped_from n xs ++ clipped_from (open_from n (clipped_from n xs)) ys
-        → cond t (b ∷ clipped_from 0 (xs ++ ys)) (cond u (b ∷ clipped_from (n + 1) (xs ++ ys)) (clipped_from n (xs ++ ys)))
-        ≡ cond t (b ∷ clipped_from 0 xs) (cond u (b ∷ clipped_from (n + 1) xs) (clipped_from n xs))
-        ++ clipped_from (open_from n (cond t (b ∷ clipped_from 0 xs) (cond u (b ∷ clipped_from (n + 1) xs) (clipped_from n xs)))) ys
+        → cond t (b ∷ clipped_from 0 (xs ++ ys)) (cond u (kept_byte n b ∷ clipped_from (n + 1) (xs ++ ys)) (clipped_from n (xs ++ ys)))
+        ≡ cond t (b ∷ clipped_from 0 xs) (cond u (kept_byte n b ∷ clipped_from (n + 1) xs) (clipped_from n xs))
+        ++ clipped_from (open_from n (cond t (b ∷ clipped_from 0 xs) (cond u (kept_byte n b ∷ clipped_from (n + 1) xs) (clipped_from n xs)))) ys
     at true e u first next over =
         ap (λ l. b ∷ l) (first ∙ ap (λ t. clipped_from 0 xs ++ clipped_from (cond t (open_from 0 (clipped_from 0 xs)) (open_from (n + 1) (clipped_from 0 xs))) ys) (sym e))
     at false e true first next over =
-        ap (λ l. b ∷ l) (next ∙ ap (λ t. clipped_from (n + 1) xs ++ clipped_from (cond t (open_from 0 (clipped_from (n + 1) xs)) (open_from (n + 1) (clipped_from (n + 1) xs))) ys) (sym e))
+        ap (λ l. kept_byte n b ∷ l)
+        (next ∙ ap (λ t. clipped_from (n + 1) xs ++ clipped_from (cond t (open_from 0 (clipped_from (n + 1) xs)) (open_from (n + 1) (clipped_from (n + 1) xs))) ys) (sym (kept_plain n b e)))
     at false e false first next over = over
 
+-- the first bytes, so many, and the mark of those behind them
+abbrev pub clip : ℕ → List ℕ → List ℕ
+clip room [] = []
+clip zero (b ∷ bytes) = passed_mark ∷ []
+clip (suc room) (b ∷ bytes) = b ∷ clip room bytes
+
+pub clip-short : (room : ℕ) (bytes : List ℕ) → length bytes ≤ room → clip room bytes ≡ bytes
+clip-short room [] l = refl
+clip-short zero (b ∷ bytes) l = absurd (omega arith)
+clip-short (suc room) (b ∷ bytes) l = ap (λ y. b ∷ y) (clip-short room bytes (omega arith))
+
+pub clip-long : (room : ℕ) (bytes : List ℕ) → room < length bytes → clip room bytes ≡ take room bytes ++ passed_mark ∷ []
+clip-long room [] l = absurd (omega arith)
+clip-long zero (b ∷ bytes) l = refl
+clip-long (suc room) (b ∷ bytes) l = ap (λ y. b ∷ y) (clip-long room bytes (omega arith))
+
+-- nothing is kept behind the mark
+pub clipped-over : (n : ℕ) (bytes : List ℕ) → NoFeed bytes → most_kept < n → clipped_from n bytes ≡ []
+clipped-over n [] h l = refl
+clipped-over n (b ∷ bytes) h l =
+    let p = no_feed-parts b bytes h in
+    let full : ltb n (most_kept + 1) ≡ false = grind arith in
+    ap (λ t. cond t (b ∷ clipped_from 0 bytes) (cond (ltb n (most_kept + 1)) (kept_byte n b ∷ clipped_from (n + 1) bytes) (clipped_from n bytes))) p.0
+    ∙ ap (λ t. cond t (kept_byte n b ∷ clipped_from (n + 1) bytes) (clipped_from n bytes)) full ∙ clipped-over n bytes p.1 l
+
 -- a line that is left open keeps its first bytes
-pub clipped-open : (n room : ℕ) (bytes : List ℕ) → NoFeed bytes → n + room ≡ 65538 → clipped_from n bytes ≡ take room bytes
-clipped-open n zero [] h e = refl
-clipped-open n (suc room) [] h e = refl
+pub clipped-open : (n room : ℕ) (bytes : List ℕ) → NoFeed bytes → n + room ≡ most_kept → clipped_from n bytes ≡ clip room bytes
+clipped-open n room [] h e = refl
 clipped-open n room (b ∷ bytes) h e =
     let p = no_feed-parts b bytes h in
-    ap (λ t. cond t (b ∷ clipped_from 0 bytes) (cond (ltb n 65538) (b ∷ clipped_from (n + 1) bytes) (clipped_from n bytes))) p.0
-    ∙ at room e (clipped-open n room bytes p.1 e) (λ left. clipped-open (n + 1) left bytes p.1)
+    let fits : ltb n (most_kept + 1) ≡ true = grind arith in
+    ap (λ t. cond t (b ∷ clipped_from 0 bytes) (cond (ltb n (most_kept + 1)) (kept_byte n b ∷ clipped_from (n + 1) bytes) (clipped_from n bytes))) p.0
+    ∙ ap (λ t. cond t (kept_byte n b ∷ clipped_from (n + 1) bytes) (clipped_from n bytes)) fits
+    ∙ at room e p.1 (λ left. clipped-open (n + 1) left bytes p.1)
   where
-    at : (room : ℕ) → n + room ≡ 65538 → clipped_from n bytes ≡ take room bytes → ((left : ℕ) → n + 1 + left ≡ 65538 → clipped_from (n + 1) bytes ≡ take left bytes)
-        → cond (ltb n 65538) (b ∷ clipped_from (n + 1) bytes) (clipped_from n bytes) ≡ take room (b ∷ bytes)
-    at zero e over next =
-        let full : ltb n 65538 ≡ false = grind arith in
-        ap (λ t. cond t (b ∷ clipped_from (n + 1) bytes) (clipped_from n bytes)) full ∙ over
-    at (suc room) e over next =
-        let fits : ltb n 65538 ≡ true = grind arith in
-        ap (λ t. cond t (b ∷ clipped_from (n + 1) bytes) (clipped_from n bytes)) fits ∙ ap (λ l. b ∷ l) (next room (omega arith))
+    at : (room : ℕ) → n + room ≡ most_kept → NoFeed bytes → ((left : ℕ) → n + 1 + left ≡ most_kept → clipped_from (n + 1) bytes ≡ clip left bytes)
+        → kept_byte n b ∷ clipped_from (n + 1) bytes ≡ clip room (b ∷ bytes)
+    at zero e h next =
+        let last : (n == most_kept) ≡ true = grind arith in
+        ap (λ t. cond t passed_mark b ∷ clipped_from (n + 1) bytes) last ∙ ap (λ y. passed_mark ∷ y) (clipped-over (n + 1) bytes h (omega arith))
+    at (suc room) e h next =
+        let inner : (n == most_kept) ≡ false = grind arith in
+        ap (λ t. cond t passed_mark b ∷ clipped_from (n + 1) bytes) inner ∙ ap (λ y. b ∷ y) (next room (omega arith))
 
 pub clipped-most : (n : ℕ) (bytes : List ℕ) → length (clipped_from n bytes) ≤ length bytes
 clipped-most n [] = omega arith
-clipped-most n (b ∷ bytes) = at (b == 10) (ltb n 65538) (clipped-most 0 bytes) (clipped-most (n + 1) bytes) (clipped-most n bytes)
+clipped-most n (b ∷ bytes) = at (b == feed) (ltb n (most_kept + 1)) (clipped-most 0 bytes) (clipped-most (n + 1) bytes) (clipped-most n bytes)
   where
     at : (t u : Bool) → length (clipped_from 0 bytes) ≤ length bytes → length (clipped_from (n + 1) bytes) ≤ length bytes → length (clipped_from n bytes) ≤ length bytes
-        → length (cond t (b ∷ clipped_from 0 bytes) (cond u (b ∷ clipped_from (n + 1) bytes) (clipped_from n bytes))) ≤ length (b ∷ bytes)
+        → length (cond t (b ∷ clipped_from 0 bytes) (cond u (kept_byte n b ∷ clipped_from (n + 1) bytes) (clipped_from n bytes))) ≤ length (b ∷ bytes)
     at true u first next over = omega arith
     at false true first next over = omega arith
     at false false first next over = omega arith
@@ -81,7 +112,7 @@ clipped-most n (b ∷ bytes) = at (b == 10) (ltb n 65538) (clipped-most 0 bytes)
 pub open-append : (n : ℕ) (xs ys : List ℕ) → open_from n (xs ++ ys) ≡ open_from (open_from n xs) ys
 open-append n [] ys = refl
 open-append n (b ∷ xs) ys =
-    elim (b == 10) as (λ t. cond t (open_from 0 (xs ++ ys)) (open_from (n + 1) (xs ++ ys)) ≡ open_from (cond t (open_from 0 xs) (open_from (n + 1) xs)) ys)
+    elim (b == feed) as (λ t. cond t (open_from 0 (xs ++ ys)) (open_from (n + 1) (xs ++ ys)) ≡ open_from (cond t (open_from 0 xs) (open_from (n + 1) xs)) ys)
     [ true ↦ open-append 0 xs ys | false ↦ open-append (n + 1) xs ys ]
 
 pub open-plain : (n : ℕ) (bytes : List ℕ) → NoFeed bytes → open_from n bytes ≡ n + length bytes
@@ -93,7 +124,7 @@ open-plain n (b ∷ bytes) h =
 
 pub open-most : (n : ℕ) (bytes : List ℕ) → open_from n bytes ≤ n + length bytes
 open-most n [] = omega arith
-open-most n (b ∷ bytes) = at (b == 10) (open-most 0 bytes) (open-most (n + 1) bytes)
+open-most n (b ∷ bytes) = at (b == feed) (open-most 0 bytes) (open-most (n + 1) bytes)
   where
     at : (t : Bool) → open_from 0 bytes ≤ 0 + length bytes → open_from (n + 1) bytes ≤ n + 1 + length bytes → cond t (open_from 0 bytes) (open_from (n + 1) bytes) ≤ n + length (b ∷ bytes)
     at true first next = omega arith
@@ -101,7 +132,7 @@ open-most n (b ∷ bytes) = at (b == 10) (open-most 0 bytes) (open-most (n + 1) 
 
 pub open-less : (n : ℕ) (bytes : List ℕ) → list_any is_feed bytes ≡ true → open_from n bytes < length bytes
 open-less n [] h = absurd (true≢false (sym h))
-open-less n (b ∷ bytes) h = at (b == 10) h (open-most 0 bytes) (open-less (n + 1) bytes)
+open-less n (b ∷ bytes) h = at (b == feed) h (open-most 0 bytes) (open-less (n + 1) bytes)
   where
     at : (t : Bool) → (t || list_any is_feed bytes) ≡ true → open_from 0 bytes ≤ 0 + length bytes → (list_any is_feed bytes ≡ true → open_from (n + 1) bytes < length bytes)
         → cond t (open_from 0 bytes) (open_from (n + 1) bytes) < length (b ∷ bytes)
@@ -116,38 +147,23 @@ open-whole bytes e = at (list_any is_feed bytes) (open-less 0 bytes)
     at true less = let l : open_from 0 bytes < length bytes = less refl in absurd (omega arith)
     at false less = refl
 
-pub open-clipped : (n : ℕ) (bytes : List ℕ) → n ≤ 65538 → open_from n (clipped_from n bytes) ≤ 65538
-open-clipped n [] h = h
-open-clipped n (b ∷ bytes) h = at (b == 10) refl (ltb n 65538) refl (open-clipped 0 bytes) (open-clipped (n + 1) bytes) (open-clipped n bytes h)
-  where
-    at : (t : Bool) → (b == 10) ≡ t → (u : Bool) → ltb n 65538 ≡ u
-        → (0 ≤ 65538 → open_from 0 (clipped_from 0 bytes) ≤ 65538)
-        → (n + 1 ≤ 65538 → open_from (n + 1) (clipped_from (n + 1) bytes) ≤ 65538)
-        → open_from n (clipped_from n bytes) ≤ 65538
-        → open_from n (cond t (b ∷ clipped_from 0 bytes) (cond u (b ∷ clipped_from (n + 1) bytes) (clipped_from n bytes))) ≤ 65538
-    at true e u f first next over = subst (λ t. cond t (open_from 0 (clipped_from 0 bytes)) (open_from (n + 1) (clipped_from 0 bytes)) ≤ 65538) (sym e) (first (omega arith))
-    at false e true f first next over =
-        let less : n + 1 ≤ 65538 = grind arith in
-        subst (λ t. cond t (open_from 0 (clipped_from (n + 1) bytes)) (open_from (n + 1) (clipped_from (n + 1) bytes)) ≤ 65538) (sym e) (next less)
-    at false e false f first next over = over
-
 -- ---- the first line
 
 -- bytes with a line feed have a first line
-pub first_line : (bytes : List ℕ) → list_any is_feed bytes ≡ true → (raw : List ℕ) × (more : List ℕ) × (bytes ≡ raw ++ 10 ∷ more) × NoFeed raw
+pub first_line : (bytes : List ℕ) → list_any is_feed bytes ≡ true → (raw : List ℕ) × (more : List ℕ) × (bytes ≡ raw ++ feed ∷ more) × NoFeed raw
 first_line [] h = absurd (true≢false (sym h))
-first_line (b ∷ bytes) h = at (b == 10) refl h (first_line bytes)
+first_line (b ∷ bytes) h = at (b == feed) refl h (first_line bytes)
   where
-    at : (t : Bool) → (b == 10) ≡ t → (t || list_any is_feed bytes) ≡ true
-        → (list_any is_feed bytes ≡ true → (raw : List ℕ) × (more : List ℕ) × (bytes ≡ raw ++ 10 ∷ more) × NoFeed raw)
-        → (raw : List ℕ) × (more : List ℕ) × (b ∷ bytes ≡ raw ++ 10 ∷ more) × NoFeed raw
-    at true e h next = let same : b ≡ 10 = grind arith in ([], bytes, ap (λ b. b ∷ bytes) same, refl)
+    at : (t : Bool) → (b == feed) ≡ t → (t || list_any is_feed bytes) ≡ true
+        → (list_any is_feed bytes ≡ true → (raw : List ℕ) × (more : List ℕ) × (bytes ≡ raw ++ feed ∷ more) × NoFeed raw)
+        → (raw : List ℕ) × (more : List ℕ) × (b ∷ bytes ≡ raw ++ feed ∷ more) × NoFeed raw
+    at true e h next = let same : b ≡ feed = grind arith in ([], bytes, ap (λ b. b ∷ bytes) same, refl)
     at false e h next =
         let p = next h in
         (b ∷ p.0, p.1, ap (λ l. b ∷ l) p.2, ap (λ t. t || list_any is_feed p.0) e ∙ p.3)
 
 -- bytes have one first line
-pub one_first : (xs ys more left : List ℕ) → NoFeed xs → NoFeed ys → xs ++ 10 ∷ more ≡ ys ++ 10 ∷ left → (xs ≡ ys) × (more ≡ left)
+pub one_first : (xs ys more left : List ℕ) → NoFeed xs → NoFeed ys → xs ++ feed ∷ more ≡ ys ++ feed ∷ left → (xs ≡ ys) × (more ≡ left)
 one_first [] [] more left h k e = (refl, cc)
 one_first [] (y ∷ ys) more left h k e =
     let same : 10 ≡ y = cc in
@@ -157,15 +173,15 @@ one_first (x ∷ xs) [] more left h k e =
     absurd (true≢false (ap is_feed same ∙ (no_feed-parts x xs h).0))
 one_first (x ∷ xs) (y ∷ ys) more left h k e =
     let same : x ≡ y = cc in
-    let tails : xs ++ 10 ∷ more ≡ ys ++ 10 ∷ left = cc in
+    let tails : xs ++ feed ∷ more ≡ ys ++ feed ∷ left = cc in
     let p = one_first xs ys more left (no_feed-parts x xs h).1 (no_feed-parts y ys k).1 tails in
     (cc, p.1)
 
 plain_before : (bytes : List ℕ) → NoFeed (take (position_or_len is_feed bytes) bytes)
 plain_before [] = refl
-plain_before (b ∷ bytes) = at (b == 10) refl (plain_before bytes)
+plain_before (b ∷ bytes) = at (b == feed) refl (plain_before bytes)
   where
-    at : (t : Bool) → (b == 10) ≡ t → NoFeed (take (position_or_len is_feed bytes) bytes) → NoFeed (take (cond (not t) (1 + position_or_len is_feed bytes) 0) (b ∷ bytes))
+    at : (t : Bool) → (b == feed) ≡ t → NoFeed (take (position_or_len is_feed bytes) bytes) → NoFeed (take (cond (not t) (1 + position_or_len is_feed bytes) 0) (b ∷ bytes))
     at true e h = refl
     at false e h =
         let long : 1 + position_or_len is_feed bytes ≡ suc (position_or_len is_feed bytes) = one-add (position_or_len is_feed bytes) in
@@ -178,7 +194,7 @@ first_feed bytes = at (ltb (position_or_len is_feed bytes) (length bytes)) refl
     at : (t : Bool) → ltb (position_or_len is_feed bytes) (length bytes) ≡ t → MatchOption (cond t (Some (position_or_len is_feed bytes)) None) (NoFeed bytes) (λ n. IsFirstFeed n bytes)
     at true e =
         let found = position-Some is_feed bytes (position_or_len is_feed bytes) 0 (ap (λ t. cond t (Some (position_or_len is_feed bytes)) None) e) in
-        let feed : get_or bytes (position_or_len is_feed bytes) 0 ≡ 10 = eqb-true (get_or bytes (position_or_len is_feed bytes) 0) 10 found.1 in
+        let feed : get_or bytes (position_or_len is_feed bytes) 0 ≡ feed = eqb-true (get_or bytes (position_or_len is_feed bytes) 0) feed found.1 in
         record {
           within = found.0;
           parts = split_at_first is_feed bytes 0 found.0 ∙ ap (λ b. take (position_or_len is_feed bytes) bytes ++ b ∷ drop (position_or_len is_feed bytes + 1) bytes) feed;
@@ -188,7 +204,7 @@ first_feed bytes = at (ltb (position_or_len is_feed bytes) (length bytes)) refl
         let past : length bytes ≤ position_or_len is_feed bytes = grind arith in
         subst NoFeed (take_all (position_or_len is_feed bytes) bytes past) (plain_before bytes)
 
--- ---- what is said of a line that was cut
+-- ---- what is told of a line that was cut
 
 pub without_cr-least : (bytes : List ℕ) → length bytes ≤ length (without_cr bytes) + 1
 without_cr-least [] = omega arith
@@ -199,19 +215,22 @@ without_cr-least (b ∷ []) = at (b == 13)
     at false = omega arith
 without_cr-least (b ∷ c ∷ bytes) = let more = without_cr-least (c ∷ bytes) in omega arith
 
-uncut_at : (k : ℕ) → 65537 < k → (line : Line) (raw : List ℕ) → IsLine line (take k raw) → IsLine line raw
-uncut_at k enough line raw h = at (ltb k (length raw)) refl
-  where
-    long : (line : Line) → k < length raw → IsLine line (take k raw) → IsLine line raw
-    long (Bytes line) over h =
-        let cut = length-take-le k raw (omega arith) in
-        absurd (omega (arith, without_cr-least (take k raw), cut, h.1))
-    long Long over h = omega (arith, without_cr-least raw)
+pub too_long : (raw : List ℕ) → most_kept < length raw → IsLine Long raw
+too_long raw l = omega (arith, without_cr-least raw)
 
-    at : (t : Bool) → ltb k (length raw) ≡ t → IsLine line raw
-    at true e = long line (grind arith) h
-    at false e = let short : length raw ≤ k = grind arith in subst (IsLine line) (take_all k raw short) h
+clip_told : (room : ℕ) → room ≡ most_kept → (line : Line) (raw : List ℕ) → IsLine line (clip room raw) → IsLine line raw
+clip_told room e line raw h = at (ltb room (length raw)) refl
+  where
+    long : (line : Line) → room < length raw → IsLine line (take room raw ++ passed_mark ∷ []) → IsLine line raw
+    long (Bytes line) over h =
+        let cut : List ℕ = take room raw ++ passed_mark ∷ [] in
+        absurd (omega (arith, without_cr-least cut, length-append (take room raw) (passed_mark ∷ []), length-take-le room raw (omega arith), h.1))
+    long Long over h = too_long raw (omega arith)
+
+    at : (t : Bool) → ltb room (length raw) ≡ t → IsLine line raw
+    at true f = let over : room < length raw = grind arith in long line over (subst (IsLine line) (clip-long room raw over) h)
+    at false f = let short : length raw ≤ room = grind arith in subst (IsLine line) (clip-short room raw short) h
 
 -- a line that was cut is told as the whole line is
-pub uncut : (line : Line) (raw : List ℕ) → IsLine line (take 65538 raw) → IsLine line raw
-uncut line raw h = uncut_at 65538 (lit< tt) line raw h
+pub uncut : (line : Line) (raw : List ℕ) → IsLine line (clip most_kept raw) → IsLine line raw
+uncut line raw h = clip_told most_kept refl line raw h

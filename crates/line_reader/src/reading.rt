@@ -1,21 +1,43 @@
 // A reader that holds the bytes of lines that weren't given yet.
-ghost use Rattle.std.specs.Prelude.{◌≡◌, ◌≢◌, ℕ, ◌+◌, ◌*◌, ◌<◌, ◌≤◌, List, [], ◌∷◌, ◌++◌, length, take, drop, MatchOption, OnOk, OnErr, IfOk, vec_len};
+ghost use Rattle.std.specs.Prelude.{◌≡◌, ◌≢◌, ℕ, ◌+◌, ◌*◌, ◌≤◌, min, IsTrue, List, [], ◌∷◌, ◌++◌, length, take, drop};
+ghost use Rattle.std.specs.Prelude.{MatchOption, OnOk, OnErr, IfOk, vec_len};
+ghost use Rattle.ev_term.specs.Bytes.{feed};
 ghost use Rattle.ev_term.specs.Lines.{without_cr};
 ghost use Rattle.line_reader.specs.Cutting.{NoFeed, IsLine};
-ghost use Rattle.line_reader.specs.Keeping.{clipped_from, open_from, IsFirstFeed};
+ghost use Rattle.line_reader.specs.Keeping.{most_kept, mark_if, clipped_from, open_from, none_open, marked_length, IsFirstFeed};
 
+use ev_term::MOST_LINE_BYTES;
 use std::alloc::{AllocError, Global};
 
-const MOST_BYTES: usize = 65536;
+// So many bytes are kept of a line that no line feed ended: the longest with its carriage return.
+const MOST_KEPT: usize = MOST_LINE_BYTES + 1;
 
-// One byte more than the longest line with its carriage return.
-const MOST_KEPT: usize = MOST_BYTES + 2;
+// Stands behind the bytes that are kept of a line that had more.
+const PASSED_MARK: u8 = 0;
 
-/// A line without its line feed, or that it has more than 65,536 bytes.
+/// A line without its line feed, or that it has more than `MOST_LINE_BYTES` bytes.
 #[derive(Clone, Copy)]
 pub enum Line<'a> {
     Bytes(&'a [u8]),
     Long,
+}
+
+// The line that no line feed ended: how many bytes are kept of it, and whether it has more.
+#[derive(Clone, Copy)]
+struct OpenLine {
+    kept: usize,
+    passed: bool,
+}
+
+impl OpenLine {
+    fn new() -> OpenLine
+        ensures { result ≡ none_open }
+    {
+        OpenLine {
+            kept: 0,
+            passed: false,
+        }
+    }
 }
 
 /// The bytes that were fed and not yet given as lines.
@@ -24,11 +46,11 @@ pub struct LineReader {
     held: Vec<u8>,
     // Bytes before this place were given.
     at: usize,
-    // How many bytes are kept of the last line, which no line feed ends.
-    last: usize,
+    last: OpenLine,
     ghost placed: { at ≤ vec_len held },
-    ghost counted: { last ≡ open_from 0 (drop at held.items) },
-    ghost few: { last ≤ 65538 },
+    ghost counted: { marked_length last ≡ open_from 0 (drop at held.items ++ mark_if last.passed) },
+    ghost few: { last.kept ≤ most_kept },
+    ghost full: { IsTrue last.passed → last.kept ≡ most_kept },
 }
 
 impl LineReader {
@@ -44,11 +66,11 @@ impl LineReader {
         LineReader {
             held: Vec::new(alloc),
             at: 0,
-            last: 0,
+            last: OpenLine::new(),
         }
     }
 
-    /// Takes more bytes. After an error it holds what it held.
+    /// Adds bytes behind those held. After an error it holds what it held.
     pub fn feed(&mut self, piece: &[u8]) -> Result<(), AllocError>
         ensures ok { (bytes : List ℕ) → Holds self.old bytes → OnOk result (Holds self.new (bytes ++ piece.now)) }
         ensures err { (bytes : List ℕ) → Holds self.old bytes → OnErr result (Holds self.new bytes) }
@@ -71,7 +93,8 @@ impl LineReader {
     // Forgets the bytes that were given where they are at least half, so that each byte is moved once on average.
     fn drop_given(&mut self)
         ensures kept { drop self.new.at self.new.held.items ≡ drop self.old.at self.old.held.items }
-        ensures room { bytes_stored self.new ≤ 2 * bytes_kept self.old }
+        ensures last { self.new.last ≡ self.old.last }
+        ensures room { bytes_stored self.new + min 1 (bytes_kept self.old) ≤ 2 * bytes_kept self.old }
     {
         if self.held.len() - self.at <= self.at {
             drop_front(&mut self.held, self.at);
@@ -79,10 +102,20 @@ impl LineReader {
         }
     }
 
+    /// How many bytes it keeps of lines that weren't given: of a line that no line feed ended at most `MOST_LINE_BYTES` + 1, the
+    /// longest with its carriage return.
+    pub fn held_bytes(&self) -> usize
+        ensures kept { result ≡ bytes_kept self.now }
+        ensures most { (bytes : List ℕ) → Holds self.now bytes → result ≤ length bytes }
+        ensures of_line { (bytes : List ℕ) → Holds self.now bytes → NoFeed bytes → result ≡ min (length bytes) most_kept }
+    {
+        self.held.len() - self.at
+    }
+
     /// The first line held, without its line feed and without one carriage return before it.
     pub fn next_line(&mut self) -> Option<Line<'_>>
         ensures line { (bytes : List ℕ) → Holds self.old bytes → MatchOption result (NoFeed bytes)
-            (λ line. (raw : List ℕ) × (more : List ℕ) × (bytes ≡ raw ++ 10 ∷ more) × NoFeed raw × IsLine line raw) }
+            (λ line. (raw : List ℕ) × (more : List ℕ) × (bytes ≡ raw ++ feed ∷ more) × NoFeed raw × IsLine line raw) }
         ensures* after_borrow { sem 𝓛 (Rests the_row self.entry (λ new. MovesOn self.old result new)) }
     {
         let length = self.first_length()?;
@@ -94,9 +127,9 @@ impl LineReader {
 
     // How many bytes stand before the first line feed held.
     fn first_length(&self) -> Option<usize>
-        ensures { MatchOption result (NoFeed (drop self.now.at self.now.held.items)) (λ n. IsFirstFeed n (drop self.now.at self.now.held.items)) }
+        ensures { let items = drop self.now.at self.now.held.items in MatchOption result (NoFeed items) (λ n. IsFirstFeed n items) }
     {
-        if self.last == self.held.len() - self.at {
+        if self.last.kept == self.held.len() - self.at {
             return None;
         }
         line_end(&self.held[self.at..])
@@ -110,10 +143,13 @@ impl LineReader {
         ensures* after_borrow { sem 𝓛 (Rests the_row self.entry (λ new. Holds new [])) }
     {
         let start = self.at;
+        let passed = self.last.passed;
         self.at = self.held.len();
-        self.last = 0;
+        self.last = OpenLine::new();
         let raw = &self.held[start..];
-        if raw.is_empty() {
+        if passed {
+            Some(Line::Long)
+        } else if raw.is_empty() {
             None
         } else {
             Some(told(raw))
@@ -135,7 +171,7 @@ fn told(raw: &[u8]) -> Line<'_>
     ensures { IsLine result raw.now }
 {
     let line = without_cr(raw);
-    if line.len() > MOST_BYTES {
+    if line.len() > MOST_LINE_BYTES {
         Line::Long
     } else {
         Line::Bytes(line)
@@ -158,32 +194,57 @@ fn line_end(bytes: &[u8]) -> Option<usize>
     bytes.iter().position(|byte| *byte == b'\n')
 }
 
-// Appends the bytes that are kept of a piece, where so many stand before on its first line, and says how many are kept of its last line.
-fn keep_piece(held: &mut Vec<u8>, mut last: usize, piece: &[u8]) -> Result<usize, AllocError>
-    requires { last ≤ 65538 }
-    ensures kept { OnOk result (held.new.items ≡ held.old.items ++ clipped_from last piece.now) }
-    ensures last { IfOk result (λ n. n ≡ open_from last (clipped_from last piece.now)) }
-    ensures before { take (vec_len held.old) held.new.items ≡ held.old.items }
+// Appends the bytes that are kept of a piece, where this stands before on its first line, and says what is kept of its last line.
+fn keep_piece(held: &mut Vec<u8>, mut last: OpenLine, piece: &[u8]) -> Result<OpenLine, AllocError>
+    requires few { last.kept ≤ most_kept }
+    requires full { IsTrue last.passed → last.kept ≡ most_kept }
+    ensures kept { IfOk result (λ line. held.new.items ++ mark_if line.passed
+        ≡ (held.old.items ++ mark_if last.passed) ++ clipped_from (marked_length last) piece.now) }
+    ensures counted { IfOk result (λ line. marked_length line
+        ≡ open_from (marked_length last) (clipped_from (marked_length last) piece.now)) }
+    ensures few { IfOk result (λ line. line.kept ≤ most_kept) }
+    ensures full { IfOk result (λ line. IsTrue line.passed → line.kept ≡ most_kept) }
+    ensures before { take (length held.old.items) held.new.items ≡ held.old.items }
 {
     let mut rest = piece;
     while let Some(length) = line_end(rest) {
-        keep_part(held, last, &rest[..length])?;
-        held.push(b'\n')?;
-        last = 0;
+        let line = keep_part(held, last, &rest[..length])?;
+        end_line(held, line.passed)?;
+        last = OpenLine::new();
         rest = &rest[length + 1..];
     }
     keep_part(held, last, rest)
 }
 
-// Appends the bytes that are kept of a part of a line, and says how many are kept of the line then.
-fn keep_part(held: &mut Vec<u8>, last: usize, part: &[u8]) -> Result<usize, AllocError>
-    requires most { last ≤ 65538 }
-    requires plain { NoFeed part.now }
-    ensures kept { OnOk result (held.new.items ≡ held.old.items ++ clipped_from last part.now) }
-    ensures last { IfOk result (λ n. n ≡ open_from last (clipped_from last part.now)) }
-    ensures err { OnErr result (held.new.items ≡ held.old.items) }
+// Appends a line feed, and before it the mark of a line of which not all is kept.
+fn end_line(held: &mut Vec<u8>, passed: bool) -> Result<(), AllocError>
+    ensures ok { OnOk result (held.new.items ≡ (held.old.items ++ mark_if passed) ++ feed ∷ []) }
+    ensures before { take (length held.old.items) held.new.items ≡ held.old.items }
 {
-    let count = part.len().min(MOST_KEPT - last);
+    if passed {
+        held.push(PASSED_MARK)?;
+    }
+    held.push(b'\n')?;
+    Ok(())
+}
+
+// Appends the bytes that are kept of a part of a line, and says what is kept of the line then.
+fn keep_part(held: &mut Vec<u8>, last: OpenLine, part: &[u8]) -> Result<OpenLine, AllocError>
+    requires few { last.kept ≤ most_kept }
+    requires full { IsTrue last.passed → last.kept ≡ most_kept }
+    requires plain { NoFeed part.now }
+    ensures kept { IfOk result (λ line. held.new.items ++ mark_if line.passed
+        ≡ (held.old.items ++ mark_if last.passed) ++ clipped_from (marked_length last) part.now) }
+    ensures counted { IfOk result (λ line. marked_length line
+        ≡ open_from (marked_length last) (clipped_from (marked_length last) part.now)) }
+    ensures few { IfOk result (λ line. line.kept ≤ most_kept) }
+    ensures full { IfOk result (λ line. IsTrue line.passed → line.kept ≡ most_kept) }
+    ensures before { take (length held.old.items) held.new.items ≡ held.old.items }
+{
+    let count = part.len().min(MOST_KEPT - last.kept);
     held.extend_from_slice(&part[..count])?;
-    Ok(last + count)
+    Ok(OpenLine {
+        kept: last.kept + count,
+        passed: last.passed || count < part.len(),
+    })
 }

@@ -1,5 +1,5 @@
-use Rattle.std.proofs.Common.{◌+◌, ◌++◌, refl, sym, ap, ◌∙◌, arith, length, length-drop}
-use Rattle.line_reader.specs.Keeping.{clipped_from, open_from}
+use Rattle.std.proofs.Common.{◌+◌, ◌++◌, refl, sym, ap, ◌∙◌, arith, length, length-drop, true≢false}
+use Rattle.line_reader.specs.Keeping.{mark_if, clipped_from, open_from, marked_length}
 use Rattle.line_reader.proofs.HoldLaws.{slice_behind, piece_kept, piece_counted, front_stays}
 use Rattle.line_reader.proofs.reading.keep_piece.Goals as goal
 
@@ -13,18 +13,18 @@ pub loop-length-preserved : goal.loop-length-preserved
 loop-length-preserved c =
     let rest = c.loop-length.rest.now in
     let inv = c.loop-length.invariant in
+    let last = c.loop-length.last in
+    let next = c.new-last.result in
     let n = c.in-Some.length in
     let first = c.in-Some.ensures in
-    let part = c.in_ok-keep_part.ensures.kept in
-    let ended = c.in_ok-push.ensures.items in
-    let front = front_stays _ c.loop-length.held.items _ c.push.new.self.items _ _ part ended (omega (arith, c.loop-length.held.ok)) inv.front in
     let left = slice_behind rest rest (n + 1) refl in
     record {
-      few = omega arith;
-      kept = inv.kept ∙ piece_kept c.loop-length.held.items _ _ rest c.loop-length.last n first part ended
-          ∙ ap (λ l. c.push.new.self.items ++ clipped_from 0 l) (sym left);
-      counted = inv.counted ∙ piece_counted rest c.loop-length.last n first ∙ ap (λ l. open_from 0 (clipped_from 0 l)) (sym left);
-      longer = omega (arith, front.0, c.push.new.self.ok);
+      few = omega (arith, ap (λ o. o.kept) c.new-last.ensures);
+      full = λ passed. absurd (true≢false (sym passed ∙ ap (λ o. o.passed) c.new-last.ensures));
+      kept = inv.kept ∙ piece_kept c.loop-length.held.items c.keep_part.new.held.items _ rest last c.in_ok-line.line next n first c.in_ok-line.ensures.kept c.in_ok-end_line.ensures.ok c.new-last.ensures
+          ∙ ap (λ l. (c.end_line.new.held.items ++ mark_if next.passed) ++ clipped_from (marked_length next) l) (sym left);
+      counted = inv.counted ∙ piece_counted rest last next n first c.new-last.ensures
+          ∙ ap (λ l. open_from (marked_length next) (clipped_from (marked_length next) l)) (sym left);
       shorter = omega (arith, ap length left, length-drop (n + 1) rest);
-      front = front.1;
+      front = front_stays _ _ _ (front_stays _ _ _ inv.front c.in_ok-line.ensures.before) c.in_ok-end_line.ensures.before;
     }
