@@ -13,7 +13,7 @@ use Rattle.rule_ast.specs.Vars.{is_in}
 use Rattle.ev_term.specs.EventOrder.{name_cmp, exact_names}
 use Rattle.rule_check.specs.Names.{head_name, head_names, body_names}
 use Rattle.rule_check.specs.Graphs.{Reaches, stop, step, HasCycle, greatest, leads, IsRankList}
-use Rattle.rule_check.specs.Components.{AreComponents}
+use Rattle.rule_check.specs.Marking.{AnyReaches}
 use Rattle.rule_check.specs.Cycles.{below, stands_on, IsOnCycle, AreAcyclic, IsFirstCycle, IsRanking, place, places, graph_of, rank_by}
 use Rattle.rule_check.proofs.Placing.{itself, same_name, no_place}
 use Rattle.rule_check.proofs.NameGraph.{place_below, place_name, place_some, in_places, places_in, targets_of, lead_from, lead_to, graph_length, places_inside}
@@ -200,6 +200,10 @@ pub cycle_at : (rules before rest : List PlainRule) (number : ℕ) (r : PlainRul
 cycle_at rules before rest number r is n h =
     subst (λ l. IsFirstCycle rules 1 l (number + 1)) (sym is) (subst (IsFirstCycle rules 1 (before ++ r ∷ rest)) (let c = n.counted in omega (arith, c)) (first_at rules 1 before r rest n.off h))
 
+pub decided : (b : Bool) {P : Type 0} → (b ≡ true → P) → (b ≡ false → P → ⊥) → Decides b P
+decided true f g = (f, λ p. refl)
+decided false f g = (f, λ p. absurd (g refl p))
+
 -- whether nodes of a body reach the head's is whether the rule is on a cycle
 module _ (heads : List NameArity) (rules : List PlainRule) (are : (n : NameArity) → has name_cmp n heads ≡ has name_cmp n (head_names rules)) (r : PlainRule) (node : ℕ) (at : place heads (head_name r) ≡ Some node) where
   cycle_found : (i : ℕ) → is_in i (places heads (body_names r.body)) ≡ true → Reaches (leads (graph_of heads rules)) i node → IsOnCycle rules r
@@ -213,26 +217,9 @@ module _ (heads : List NameArity) (rules : List PlainRule) (are : (n : NameArity
       let (i, p, s) = node_reaches heads rules are node m (head_name r) at t in
       none i (places_in heads (body_names r.body) m i h p) s
 
-  -- the head's node leads to those of the body
-  body_leads : (before rest : List PlainRule) → rules ≡ before ++ r ∷ rest → (i : ℕ) → is_in i (places heads (body_names r.body)) ≡ true → leads (graph_of heads rules) node i ≡ true
-  body_leads before rest is i e =
-      let (m, h, p) = in_places heads (body_names r.body) i e in
-      lead_to heads rules node i (head_name r) m at (ap (λ rs. has name_cmp m (below rs (head_name r))) is ∙ rule_below before rest r m h) p
-
-  -- a rule is on a cycle where a name of its body is in the component of the head's
-  module _ (names : List ℕ) (c : AreComponents (graph_of heads rules) names) where
-    node_inside : node < length (graph_of heads rules)
-    node_inside = let a = place_below heads (head_name r) node at in let b = graph_length heads rules in omega (arith, a, b)
-
-    body_inside : (i : ℕ) → is_in i (places heads (body_names r.body)) ≡ true → i < length (graph_of heads rules)
-    body_inside i e = places_inside heads (body_names r.body) (length (graph_of heads rules)) (graph_length heads rules) i e
-
-    pub joined_found : (i : ℕ) → is_in i (places heads (body_names r.body)) ≡ true → get_or names i 0 ≡ get_or names node 0 → IsOnCycle rules r
-    joined_found i e same = cycle_found i e (c.joined i node (body_inside i e) node_inside same)
-
-    pub joined_missed : (before rest : List PlainRule) → rules ≡ before ++ r ∷ rest → ((i : ℕ) → is_in i (places heads (body_names r.body)) ≡ true → get_or names i 0 ≡ get_or names node 0 → ⊥) → IsOnCycle rules r → ⊥
-    joined_missed before rest is none = cycle_missed (λ i e t. none i e (c.apart i node (body_inside i e) node_inside t (step node i i (body_leads before rest is i e) (stop i))))
-
-pub decided : (b : Bool) {P : Type 0} → (b ≡ true → P) → (b ≡ false → P → ⊥) → Decides b P
-decided true f g = (f, λ p. refl)
-decided false f g = (f, λ p. absurd (g refl p))
+  -- a rule is on a cycle where a name of its body reaches the head's
+  pub on_cycle : (b : Bool) (nodes : List ℕ) (rows : List (List ℕ)) → nodes ≡ places heads (body_names r.body) → rows ≡ graph_of heads rules → Decides b (AnyReaches rows nodes node) → Decides b (IsOnCycle rules r)
+  on_cycle b nodes rows n g d =
+      decided b
+      (λ e. let (i, h, t) = d.0 e in cycle_found i (ap (is_in i) (sym n) ∙ h) (subst (λ k. Reaches (leads k) i node) g t))
+      (λ e. cycle_missed (λ i h t. true≢false (sym (d.1 (i, ap (is_in i) n ∙ h, subst (λ k. Reaches (leads k) i node) (sym g) t)) ∙ e)))

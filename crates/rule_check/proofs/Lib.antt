@@ -7,7 +7,7 @@ pub mod Places
 pub mod Gathered
 pub mod Rows
 pub mod Visiting
-pub mod Walking
+pub mod Marks
 pub mod Placing
 pub mod NameGraph
 pub mod Cycling

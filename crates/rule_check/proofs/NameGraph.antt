@@ -115,21 +115,21 @@ module _ (heads : List NameArity) (rules : List PlainRule) where
 -- ---- one rule more
 
 module _ (all : List NameArity) (rules : List PlainRule) (r : PlainRule) where
-  abbrev row : NameArity → List ℕ
+  abbrev pub row : NameArity → List ℕ
   row h = places all (below rules h)
 
-  abbrev next : NameArity → List ℕ
+  abbrev pub next : NameArity → List ℕ
   next h = places all (below (rules ++ r ∷ []) h)
 
   next_is : (h : NameArity) → next h ≡ row h ++ places all (cond (is_eq (name_cmp h (head_name r))) (body_names r.body) [] ++ [])
   next_is h = ap (places all) (below-append rules (r ∷ []) h) ∙ places-append all (below rules h) (cond (is_eq (name_cmp h (head_name r))) (body_names r.body) [] ++ [])
 
-  next_same : (h : NameArity) → h ≡ head_name r → next h ≡ row h ++ places all (body_names r.body)
+  pub next_same : (h : NameArity) → h ≡ head_name r → next h ≡ row h ++ places all (body_names r.body)
   next_same h e =
       next_is h ∙ ap (λ b. row h ++ places all (cond b (body_names r.body) [] ++ [])) (ap (λ k. is_eq (name_cmp h k)) (sym e) ∙ itself h)
       ∙ ap (λ l. row h ++ places all l) (append-nil (body_names r.body))
 
-  next_other : (h : NameArity) → is_eq (name_cmp h (head_name r)) ≡ false → next h ≡ row h
+  pub next_other : (h : NameArity) → is_eq (name_cmp h (head_name r)) ≡ false → next h ≡ row h
   next_other h e = next_is h ∙ ap (λ b. row h ++ places all (cond b (body_names r.body) [] ++ [])) e ∙ append-nil (row h)
 
   -- names above one differ from it

@@ -3,7 +3,7 @@ pub mod Allowed
 pub mod Sound
 pub mod Names
 pub mod Graphs
-pub mod Components
+pub mod Marking
 pub mod Cycles
 pub mod Faults
 pub mod Verdict

@@ -1,5 +1,5 @@
 // The graph of the names that head rules, and the rules on a cycle.
-ghost use Rattle.std.specs.Prelude.{◌≡◌, ℕ, ◌∷◌, ◌++◌, List, [], true, length, slice_set, map, IfOk, OnOk};
+ghost use Rattle.std.specs.Prelude.{◌≡◌, ℕ, ◌++◌, List, [], true, length, slice_set, map, IfOk, OnOk};
 ghost use Rattle.std.specs.Bool.{Decides};
 ghost use Rattle.ordered_lists.specs.Canon.{has, Rising};
 ghost use Rattle.ev_term.specs.declared.atoms.NameArity.{NameArity};
@@ -7,15 +7,14 @@ ghost use Rattle.rule_ast.specs.Plain.{plain_pattern, plain_rule, plain_statemen
 ghost use Rattle.rule_ast.specs.Shaped.{IsShaped};
 ghost use Rattle.rule_ast.specs.Trees.{PlainRule};
 ghost use Rattle.rule_check.specs.Cycles.{graph_of, place, places, IsOnCycle, IsCycleAnswer};
-ghost use Rattle.rule_check.specs.Components.{AreComponents};
-ghost use Rattle.rule_check.specs.Graphs.{targets};
+ghost use Rattle.rule_check.specs.Graphs.{IsGraph, targets};
 ghost use Rattle.ev_term.specs.EventOrder.{name_cmp};
 ghost use Rattle.rule_check.specs.Names.{body_names, head_name, head_names};
 ghost use Rattle.rule_check.specs.Sound.{rules_of};
 
 use crate::bodies::push_nodes;
-use crate::components::{any_joined, components_of};
 use crate::graph::Targets;
+use crate::marking::any_reaches;
 use crate::names::place_of;
 use ev_term::NameArity;
 use rule_ast::{Rule, Statement};
@@ -80,22 +79,24 @@ pub(crate) fn graph_of(
     Ok(rows)
 }
 
-// Whether the head name of a rule is reached from a name of its body: that name is then in the component of the head's.
+// Whether the head name of a rule is reached from a name of its body.
 fn is_on_cycle(
     alloc: Global,
     heads: &[NameArity],
-    components: &[usize],
+    graph: &[Targets],
     rule: &Rule,
 ) -> Result<bool, AllocError>
     requires rising { Rising name_cmp heads.now }
     requires known { has name_cmp (head_name (plain_rule rule.now)) heads.now ≡ true }
-    requires sized { length components.now ≡ length heads.now }
-    ensures { IfOk result (λ b. (rules before rest : List PlainRule) → rules ≡ before ++ plain_rule rule.now ∷ rest → ((n : NameArity) → has name_cmp n heads.now ≡ has name_cmp n (head_names rules)) → AreComponents (graph_of heads.now rules) components.now → Decides b (IsOnCycle rules (plain_rule rule.now))) }
+    requires sized { length graph.now ≡ length heads.now }
+    requires graph { IsGraph graph.now }
+    ensures { IfOk result (λ b. (rules : List PlainRule) → ((n : NameArity) → has name_cmp n heads.now ≡ has name_cmp n (head_names rules)) → graph.now ≡ graph_of heads.now rules → Decides b (IsOnCycle rules (plain_rule rule.now))) }
 {
     let mut nodes = Vec::new(alloc);
     push_nodes(&mut nodes, heads, &rule.body)?;
     let node = head_place(heads, rule);
-    Ok(any_joined(components, &nodes, node))
+    let found = any_reaches(alloc, graph, &nodes, node)?;
+    Ok(found)
 }
 
 // The number of the first rule that is on a cycle.
@@ -111,13 +112,12 @@ pub(crate) fn first_cycle(
     requires graph { graph.now ≡ graph_of heads.now (rules_of (map plain_statement statements.now)) }
     ensures { IfOk result (λ o. IsCycleAnswer o (rules_of (map plain_statement statements.now))) }
 {
-    let components = components_of(alloc, graph)?;
     let mut number: u32 = 0;
     for statement in statements {
         match statement {
             Statement::Rule(rule) => {
                 number += 1;
-                if is_on_cycle(alloc, heads, &components, rule)? {
+                if is_on_cycle(alloc, heads, graph, rule)? {
                     return Ok(Some(number));
                 }
             }

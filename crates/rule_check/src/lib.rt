@@ -5,11 +5,11 @@
 mod bodies;
 mod checked;
 mod checking;
-mod components;
 mod dependencies;
 mod faults;
 mod gathering;
 mod graph;
+mod marking;
 mod names;
 mod offenders;
 mod outside;

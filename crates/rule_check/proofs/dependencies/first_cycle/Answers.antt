@@ -3,7 +3,6 @@ use Rattle.ordered_lists.specs.Canon.{has}
 use Rattle.rule_ast.specs.Plain.{plain_rule, plain_statement}
 use Rattle.ev_term.specs.EventOrder.{name_cmp}
 use Rattle.rule_check.specs.Names.{head_name, head_names}
-use Rattle.rule_check.specs.Components.{AreComponents}
 use Rattle.rule_check.specs.Graphs.{IsGraph}
 use Rattle.rule_check.proofs.CleanRules.{few_before, rule_among, a_rule, no_rule, rules_in}
 use Rattle.rule_check.proofs.NameGraph.{head_known, graph_is, graph_length}
@@ -21,29 +20,23 @@ is_on_cycle-requires-clause-known c =
     ∙ ap (λ rs. has name_cmp (head_name (plain_rule c.in-Rule.rule)) (head_names rs)) (rule_among c.args.statements.now c.loop-statement.statement-index c.statement-item.result c.in-Rule.rule c.loop-statement-test.true c.statement-item.is c.in-Rule.is)
     ∙ head_known _ _ (plain_rule c.in-Rule.rule)
 
-pub components_of-requires : goal.components_of-requires
-components_of-requires c = record { graph = subst IsGraph (sym c.requires.graph) (graph_is c.args.heads.now (rules_in c.args.statements.now)) }
+pub is_on_cycle-requires-clause-graph : goal.is_on_cycle-requires-clause-graph
+is_on_cycle-requires-clause-graph c = subst IsGraph (sym c.requires.graph) (graph_is c.args.heads.now (rules_in c.args.statements.now))
 
 pub is_on_cycle-requires-clause-sized : goal.is_on_cycle-requires-clause-sized
-is_on_cycle-requires-clause-sized c = ap length c.deref.ensures.value ∙ c.in_ok-components.ensures.sized ∙ ap length c.requires.graph ∙ graph_length c.args.heads.now (rules_in c.args.statements.now)
+is_on_cycle-requires-clause-sized c = ap length c.requires.graph ∙ graph_length c.args.heads.now (rules_in c.args.statements.now)
 
 pub returns-then-branch : goal.returns-then-branch
 returns-then-branch c =
     cycle_at (rules_in c.args.statements.now) _ _ c.loop-statement.number (plain_rule c.in-Rule.rule)
     (rule_among c.args.statements.now c.loop-statement.statement-index c.statement-item.result c.in-Rule.rule c.loop-statement-test.true c.statement-item.is c.in-Rule.is)
     c.loop-statement.invariant
-    ((c.in_ok-is_on_cycle-in-Rule.ensures (rules_in c.args.statements.now) _ _
-    (rule_among c.args.statements.now c.loop-statement.statement-index c.statement-item.result c.in-Rule.rule c.loop-statement-test.true c.statement-item.is c.in-Rule.is) c.requires.known
-    (subst (λ g. AreComponents g c.deref.result.now) c.requires.graph (rw c.deref.ensures.value c.in_ok-components.ensures))).0
-    c.if-branch.true)
+    ((c.in_ok-is_on_cycle-in-Rule.ensures (rules_in c.args.statements.now) c.requires.known c.requires.graph).0 c.if-branch.true)
 
 pub loop-statement-preserved : goal.loop-statement-preserved
 loop-statement-preserved c = elim c.match-statement.branch [
   | in-Rule+in_ok-is_on_cycle-in-Rule+else-branch w ↦
-      let decides =
-      w.in_ok-is_on_cycle-in-Rule.ensures (rules_in c.args.statements.now) _ _
-      (rule_among c.args.statements.now c.loop-statement.statement-index c.statement-item.result w.in-Rule.rule c.loop-statement-test.true c.statement-item.is w.in-Rule.is) c.requires.known
-      (subst (λ g. AreComponents g w.deref.result.now) c.requires.graph (rw w.deref.ensures.value c.in_ok-components.ensures)) in
+      let decides = w.in_ok-is_on_cycle-in-Rule.ensures (rules_in c.args.statements.now) c.requires.known c.requires.graph in
       rw (w.number-is, a_rule c.args.statements.now c.loop-statement.statement-index c.statement-item.result c.loop-statement-test.true c.statement-item.is w.in-Rule.rule w.in-Rule.is)
       (one_off _ _ _ _ c.loop-statement.invariant (λ h. true≢false (sym (decides.1 h) ∙ w.if-branch.false)))
   | in-Show w ↦
