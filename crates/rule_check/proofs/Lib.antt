@@ -3,7 +3,6 @@ pub mod FirstOutside
 pub mod FirstOffender
 pub mod Named
 pub mod CleanRules
-pub mod Places
 pub mod Gathered
 pub mod Rows
 pub mod Visiting
@@ -11,5 +10,6 @@ pub mod Marks
 pub mod Placing
 pub mod NameGraph
 pub mod Cycling
+pub mod Numbering
 pub mod Ranking
 pub mod Verdicts

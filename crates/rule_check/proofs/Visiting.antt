@@ -21,9 +21,14 @@ one_at_most : (b : Bool) → ones b ≤ 1
 one_at_most true = omega arith
 one_at_most false = omega arith
 
-pub tally_few : (test : Mark → Bool) (ms : List Mark) → tally test ms ≤ length ms
+tally_few : (test : Mark → Bool) (ms : List Mark) → tally test ms ≤ length ms
 tally_few test [] = omega arith
 tally_few test (x ∷ ms) = let more = tally_few test ms in let first = one_at_most (test x) in omega (arith, more, first)
+
+tally_below : (test : Mark → Bool) (ms : List Mark) (i : ℕ) → i < length ms → test (mark_at ms i) ≡ false → tally test ms < length ms
+tally_below test [] i h e = absurd (omega arith)
+tally_below test (x ∷ ms) zero h e = let few = tally_few test ms in omega (arith, few, ap ones e)
+tally_below test (x ∷ ms) (suc i) h e = let first = one_at_most (test x) in let more = tally_below test ms i (omega arith) e in omega (arith, first, more)
 
 map_agree : (f g : ℕ → ℕ) (xs : List ℕ) → ((j : ℕ) → is_in j xs ≡ true → f j ≡ g j) → map f xs ≡ map g xs
 map_agree f g [] h = refl
@@ -144,11 +149,20 @@ module _ (graph : List (List ℕ)) where
             ∙ sym (greatest-more (map (rank_at next) followed) (rank_at next t)) ∙ ap greatest (sym (map-append (rank_at next) followed (t ∷ [])));
       }
 
-      pub top_few : (now : List Mark) (followed : List ℕ) (top : ℕ) → Visiting now followed top → top ≤ tally is_ranked now
+      top_few : (now : List Mark) (followed : List ℕ) (top : ℕ) → Visiting now followed top → top ≤ tally is_ranked now
       top_few now followed top v =
           let all = greatest_few (rank_at now) followed (tally is_ranked now) (λ j f. v.ranked.few j (v.done j f)) in
           let is = v.is_top in
           omega (arith, all, is)
+
+      open_still : (now : List Mark) (followed : List ℕ) (top : ℕ) → Visiting now followed top → is_open (mark_at now node) ≡ true
+      open_still now followed top v = v.follows.open_as_before node ∙ ap is_open opened
+
+      pub top_below : (now : List Mark) (followed : List ℕ) (top : ℕ) → length now ≡ length old → Visiting now followed top → top < length now
+      top_below now followed top sized v =
+          let few = top_few now followed top v in
+          let below = tally_below is_ranked now node (omega (arith, h, sized)) (open_unranked (mark_at now node) (open_still now followed top v)) in
+          omega (arith, few, below)
 
       module _ (now : List Mark) (top : ℕ) (sized : length now ≡ length old) (v : Visiting now (targets graph node) top) where
         abbrev final : List Mark
@@ -158,7 +172,7 @@ module _ (graph : List (List ℕ)) where
         within = omega arith
 
         open_now : is_open (mark_at now node) ≡ true
-        open_now = v.follows.open_as_before node ∙ ap is_open opened
+        open_now = open_still now (targets graph node) top v
 
         here : mark_at final node ≡ Ranked (top + 1)
         here = get_or-set_same now node (Ranked (top + 1)) New within

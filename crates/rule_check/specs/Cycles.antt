@@ -1,7 +1,7 @@
 -- Which names stand on which, the rules on a cycle, and ranks of names.
-use Rattle.std.specs.Prelude.{ℕ, ◌≡◌, ◌+◌, ◌≤◌, ◌⊎◌, Bool, true, false, cond, Option, Some, None, option_map, zero, suc, length, List, [], ◌∷◌, map}
+use Rattle.std.specs.Prelude.{ℕ, ◌≡◌, ◌+◌, ◌≤◌, ◌⊎◌, Bool, true, false, cond, Option, Some, None, zero, suc, length, List, [], ◌∷◌, map}
 use Rattle.std.proofs.Common.{arith}
-use Rattle.std.specs.List.{flat_map, filter_map}
+use Rattle.std.specs.List.{flat_map}
 use Rattle.std.specs.Ordering.{is_eq}
 use Rattle.ordered_lists.specs.Canon.{has}
 use Rattle.ev_term.specs.declared.atoms.NameArity.{NameArity}
@@ -9,6 +9,7 @@ use Rattle.rule_ast.specs.Trees.{PlainRule}
 use Rattle.ev_term.specs.EventOrder.{name_cmp}
 use Rattle.rule_check.specs.Names.{head_name, head_names, body_names}
 use Rattle.rule_check.specs.Graphs.{Reaches, greatest}
+use Rattle.rule_check.specs.Numbers.{places}
 
 -- the names in the bodies of a name's rules
 abbrev pub below : List PlainRule → NameArity → List NameArity
@@ -61,26 +62,9 @@ pub rank_most : (rules : List PlainRule) (n : NameArity) → rank_of rules n ≤
 unfolding rank_of
 rank_most rules n = rank_within_most rules (length rules) n
 
--- ---- names by number
-
--- the number of a name among names that differ
-abbrev pub place : List NameArity → NameArity → Option ℕ
-place [] n = None
-place (h ∷ heads) n = cond (is_eq (name_cmp n h)) (Some 0) (option_map suc (place heads n))
-
--- the numbers of those names that are among these
-abbrev pub places : List NameArity → List NameArity → List ℕ
-places heads names = filter_map (place heads) names
-
 -- for each name, the numbers of those that it stands on
 abbrev pub graph_of : List NameArity → List PlainRule → List (List ℕ)
 graph_of heads rules = map (λ h. places heads (below rules h)) heads
-
--- the rank that stands at a name's number
-abbrev pub rank_by : List NameArity → List ℕ → NameArity → ℕ
-rank_by [] ranks n = 0
-rank_by (h ∷ heads) [] n = 0
-rank_by (h ∷ heads) (r ∷ ranks) n = cond (is_eq (name_cmp n h)) r (rank_by heads ranks n)
 
 -- the number of the first rule on a cycle, or nothing where none is
 abbrev pub IsCycleAnswer : Option ℕ → List PlainRule → Type 0

@@ -1,7 +1,9 @@
 pub mod Offenders
 pub mod Allowed
 pub mod Sound
+pub mod Gathered
 pub mod Names
+pub mod Numbers
 pub mod Graphs
 pub mod Marking
 pub mod Cycles

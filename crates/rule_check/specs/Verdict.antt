@@ -1,15 +1,14 @@
 -- When rules are sound, which fault they are refused with, and what is kept of sound rules.
 use Rattle.std.specs.Prelude.{ℕ, ◌≡◌, ◌⊎◌, Some, List, [], ◌++◌, length, map}
-use Rattle.ordered_lists.specs.Canon.{canon}
 use Rattle.ev_term.specs.declared.atoms.NameArity.{NameArity}
 use Rattle.rule_ast.specs.Shaped.{IsShaped}
 use Rattle.rule_ast.specs.Trees.{PlainRule, PlainStatement}
 use Rattle.rule_check.specs.Offenders.{first}
 use Rattle.rule_check.specs.Sound.{rules_of, AreSafe}
-use Rattle.ev_term.specs.EventOrder.{name_cmp}
 use Rattle.rule_ast.specs.Shown.{shown_names}
 use Rattle.rule_check.specs.Names.{head_names, outputs, unknown_shows, AreShownKnown}
-use Rattle.rule_check.specs.Cycles.{AreAcyclic, IsFirstCycle, IsRanking, rank_of, rank_by}
+use Rattle.rule_check.specs.Cycles.{AreAcyclic, IsFirstCycle, IsRanking, rank_of}
+use Rattle.rule_check.specs.Numbers.{first_seen, rank_by}
 use Rattle.rule_check.specs.Faults.{variable_faults}
 use Rattle.rule_check.specs.declared.faults.CheckFault.{CheckFault}
 use Rattle.rule_check.specs.declared.faults.CheckFault.TheVariants.{ShowUnknown, Cycle, Memory}
@@ -47,5 +46,5 @@ pub record IsChecked (statements : List PlainStatement) (shown heads : List Name
   pub shaped : IsShaped statements
   pub sound : IsSound statements
   pub shown_is : shown ≡ outputs statements
-  pub heads_are : heads ≡ canon name_cmp (head_names (rules_of statements))
+  pub heads_are : heads ≡ first_seen (head_names (rules_of statements))
   pub ranks_are : AreNameRanks (rules_of statements) heads ranks

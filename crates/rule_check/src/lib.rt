@@ -2,7 +2,6 @@
 //! on itself.
 #![tactic(auto)]
 
-mod bodies;
 mod checked;
 mod checking;
 mod dependencies;
@@ -10,7 +9,7 @@ mod faults;
 mod gathering;
 mod graph;
 mod marking;
-mod names;
+mod numbers;
 mod offenders;
 mod outside;
 mod variables;
