@@ -40,7 +40,8 @@ detection_cmp = then_cmp (on (λ d. d.atom) atom_cmp) (on (λ d. d.span) span_cm
 
 as_term_apart : (a b : Atom) → as_term a ≡ as_term b → a ≡ b
 as_term_apart a b e =
-    let same : Comp a.name a.args ≡ Comp b.name b.args = sym (made.outs-Comp a.name a.args) ∙ ap out-Term e ∙ made.outs-Comp b.name b.args in
+    let same : Comp a.name a.args ≡ Comp b.name b.args = sym (made.outs-Comp a.name a.args) ∙ ap out-Term e
+    ∙ made.outs-Comp b.name b.args in
     let names : a.name ≡ b.name = cc in
     let args : a.args ≡ b.args = cc in
     λ i. record { name = names i; args = args i }

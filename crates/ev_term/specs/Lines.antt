@@ -54,7 +54,8 @@ abbrev is_feed : ℕ → Bool
 is_feed b = b == feed
 
 -- a split has a part
-with_first : (part : List ℕ) (bytes : List ℕ) → lines_of_parts (part ∷ slice_split is_feed bytes) ≡ without_cr part ∷ lines_of_parts (slice_split is_feed bytes)
+with_first : (part : List ℕ) (bytes : List ℕ) → lines_of_parts (part ∷ slice_split is_feed bytes) ≡ without_cr part ∷ lines_of_parts
+    (slice_split is_feed bytes)
 with_first part [] = refl
 with_first part (b ∷ bytes) = at (b == feed)
   where
@@ -62,7 +63,8 @@ with_first part (b ∷ bytes) = at (b == feed)
     more [] = refl
     more (p ∷ ps) = refl
 
-    at : (t : Bool) → lines_of_parts (part ∷ cond t ([] ∷ slice_split is_feed bytes) (onto_first b (slice_split is_feed bytes))) ≡ without_cr part ∷ lines_of_parts (cond t ([] ∷ slice_split is_feed bytes) (onto_first b (slice_split is_feed bytes)))
+    at : (t : Bool) → lines_of_parts (part ∷ cond t ([] ∷ slice_split is_feed bytes) (onto_first b (slice_split is_feed bytes)))
+        ≡ without_cr part ∷ lines_of_parts (cond t ([] ∷ slice_split is_feed bytes) (onto_first b (slice_split is_feed bytes)))
     at true = refl
     at false = more (slice_split is_feed bytes)
 
@@ -74,19 +76,24 @@ behind_nothing (b ∷ bytes) = at (b == feed)
     more [] = refl
     more (p ∷ ps) = refl
 
-    at : (t : Bool) → behind [] (cond t ([] ∷ slice_split is_feed bytes) (onto_first b (slice_split is_feed bytes))) ≡ cond t ([] ∷ slice_split is_feed bytes) (onto_first b (slice_split is_feed bytes))
+    at : (t : Bool) → behind [] (cond t ([] ∷ slice_split is_feed bytes) (onto_first b (slice_split is_feed bytes))) ≡ cond t
+        ([] ∷ slice_split is_feed bytes) (onto_first b (slice_split is_feed bytes))
     at true = refl
     at false = more (slice_split is_feed bytes)
 
-lines_from : (part bytes : List ℕ) → ended_from part bytes ++ last_line (rest_from part bytes) ≡ lines_of_parts (behind part (slice_split is_feed bytes))
+lines_from : (part bytes : List ℕ) → ended_from part bytes ++ last_line (rest_from part bytes) ≡ lines_of_parts
+    (behind part (slice_split is_feed bytes))
 lines_from part [] = ap last_line (sym (append-nil part))
 lines_from part (b ∷ bytes) = at (b == feed) (lines_from [] bytes) (lines_from (part ++ b ∷ []) bytes)
   where
     at : (t : Bool) → ended_from [] bytes ++ last_line (rest_from [] bytes) ≡ lines_of_parts (behind [] (slice_split is_feed bytes))
-        → ended_from (part ++ b ∷ []) bytes ++ last_line (rest_from (part ++ b ∷ []) bytes) ≡ lines_of_parts (behind (part ++ b ∷ []) (slice_split is_feed bytes))
-        → cond t (without_cr part ∷ ended_from [] bytes) (ended_from (part ++ b ∷ []) bytes) ++ last_line (cond t (rest_from [] bytes) (rest_from (part ++ b ∷ []) bytes))
+        → ended_from (part ++ b ∷ []) bytes ++ last_line (rest_from (part ++ b ∷ []) bytes) ≡ lines_of_parts
+        (behind (part ++ b ∷ []) (slice_split is_feed bytes))
+        → cond t (without_cr part ∷ ended_from [] bytes) (ended_from (part ++ b ∷ []) bytes)
+        ++ last_line (cond t (rest_from [] bytes) (rest_from (part ++ b ∷ []) bytes))
         ≡ lines_of_parts (behind part (cond t ([] ∷ slice_split is_feed bytes) (onto_first b (slice_split is_feed bytes))))
-    at true e f = ap (λ l. without_cr part ∷ l) (e ∙ ap lines_of_parts (behind_nothing bytes)) ∙ sym (with_first part bytes) ∙ ap (λ p. lines_of_parts (p ∷ slice_split is_feed bytes)) (sym (append-nil part))
+    at true e f = ap (λ l. without_cr part ∷ l) (e ∙ ap lines_of_parts (behind_nothing bytes)) ∙ sym (with_first part bytes)
+        ∙ ap (λ p. lines_of_parts (p ∷ slice_split is_feed bytes)) (sym (append-nil part))
     at false e f = f ∙ ap lines_of_parts (behind-onto_first part b (slice_split is_feed bytes))
 
 -- the lines, by the parts between line feeds
@@ -99,7 +106,8 @@ pub ended_from-append : (p xs ys : List ℕ) → ended_from p (xs ++ ys) ≡ end
 ended_from-append p [] ys = refl
 ended_from-append p (x ∷ xs) ys =
     elim (x == feed) as (λ t. cond t (without_cr p ∷ ended_from [] (xs ++ ys)) (ended_from (p ++ x ∷ []) (xs ++ ys))
-    ≡ cond t (without_cr p ∷ ended_from [] xs) (ended_from (p ++ x ∷ []) xs) ++ ended_from (cond t (rest_from [] xs) (rest_from (p ++ x ∷ []) xs)) ys)
+    ≡ cond t (without_cr p ∷ ended_from [] xs) (ended_from (p ++ x ∷ []) xs)
+    ++ ended_from (cond t (rest_from [] xs) (rest_from (p ++ x ∷ []) xs)) ys)
     [ true ↦ ap (λ ls. without_cr p ∷ ls) (ended_from-append [] xs ys) | false ↦ ended_from-append (p ++ x ∷ []) xs ys ]
 
 pub rest_from-append : (p xs ys : List ℕ) → rest_from p (xs ++ ys) ≡ rest_from (rest_from p xs) ys

@@ -34,7 +34,8 @@ args_of (Text s) = []
 args_of (Comp f xs) = xs
 
 abbrev pub key_cmp : Key → Key → Ordering
-key_cmp a b = ordering_then (nat_cmp a.0 b.0) (ordering_then (int_cmp a.1.0 b.1.0) (ordering_then (slice_cmp nat_cmp a.1.1.0 b.1.1.0) (nat_cmp a.1.1.1 b.1.1.1)))
+key_cmp a b = ordering_then (nat_cmp a.0 b.0)
+    (ordering_then (int_cmp a.1.0 b.1.0) (ordering_then (slice_cmp nat_cmp a.1.1.0 b.1.1.0) (nat_cmp a.1.1.1 b.1.1.1)))
 
 -- by the keys, and then the arguments from the left
 abbrev pub step : {X : Type 0} → (X → Term → Ordering) → Term-F X → Term-F Term → Ordering
@@ -61,7 +62,8 @@ opened (Comp f xs) b = λ i. ordering_then (key_cmp (3, (pos 0, (f, length_same 
 
 pub term_cmp_out : (a b : Term) → term_cmp a b ≡ step term_cmp (out-Term a) (out-Term b)
 unfolding term_cmp
-term_cmp_out a b = ap (λ f. f b) (fold_out-Term (Term → Ordering) (λ a b. step (λ x y. x y) a (out-Term b)) a) ∙ opened (out-Term a) (out-Term b)
+term_cmp_out a b = ap (λ f. f b) (fold_out-Term (Term → Ordering) (λ a b. step (λ x y. x y) a (out-Term b)) a)
+    ∙ opened (out-Term a) (out-Term b)
 
 term_cmp_roll : (a : Term-F Term) (b : Term) → term_cmp (roll-Term a) b ≡ step term_cmp a (out-Term b)
 term_cmp_roll a b = term_cmp_out (roll-Term a) b ∙ ap (λ z. step term_cmp z (out-Term b)) (out-roll-Term a)
@@ -98,7 +100,8 @@ pub texts : (x y : List ℕ) → term_cmp (made.Text x) (made.Text y) ≡ bytes_
 texts x y = term_cmp_at (made.Text x) (made.Text y) (made.outs-Text x) (made.outs-Text y) ∙ then_nothing (bytes_cmp x y)
 
 pub comps : (f g : List ℕ) (xs ys : List Term) → term_cmp (made.Comp f xs) (made.Comp g ys) ≡ ordering_then (bytes_cmp f g) (args_cmp xs ys)
-comps f g xs ys = term_cmp_at (made.Comp f xs) (made.Comp g ys) (made.outs-Comp f xs) (made.outs-Comp g ys) ∙ then_assoc (bytes_cmp f g) (nat_cmp (length xs) (length ys)) (slice_cmp term_cmp xs ys)
+comps f g xs ys = term_cmp_at (made.Comp f xs) (made.Comp g ys) (made.outs-Comp f xs) (made.outs-Comp g ys)
+    ∙ then_assoc (bytes_cmp f g) (nat_cmp (length xs) (length ys)) (slice_cmp term_cmp xs ys)
 
 -- numbers come first, then symbols, texts and compounds
 abbrev pub rank : Term → ℕ
@@ -130,10 +133,14 @@ pub ruleset kinds = (nums, syms, texts, comps, ranks)
 -- ---- only equal terms tie, and the order is total
 
 keys_total : IsTotalOrder key_cmp
-keys_total = then_total (on_total (λ k. k.0) nat_cmp_total) (then_total (on_total (λ k. k.1.0) int_cmp_total) (then_total (on_total (λ k. k.1.1.0) nat_list_cmp_total) (on_total (λ k. k.1.1.1) nat_cmp_total)))
+keys_total = then_total (on_total (λ k. k.0) nat_cmp_total)
+    (then_total (on_total (λ k. k.1.0) int_cmp_total) (then_total (on_total (λ k. k.1.1.0) nat_list_cmp_total)
+    (on_total (λ k. k.1.1.1) nat_cmp_total)))
 
 keys_exact : (a b : Key) → key_cmp a b ≡ Equal → a ≡ b
-keys_exact = exact_pairs nat_cmp _ nat_cmp-IsAntisymmetric (exact_pairs int_cmp _ int_cmp-IsAntisymmetric (exact_pairs (slice_cmp nat_cmp) nat_cmp (slice_cmp-IsAntisymmetric nat_cmp-IsAntisymmetric) nat_cmp-IsAntisymmetric))
+keys_exact = exact_pairs nat_cmp _ nat_cmp-IsAntisymmetric
+    (exact_pairs int_cmp _ int_cmp-IsAntisymmetric
+    (exact_pairs (slice_cmp nat_cmp) nat_cmp (slice_cmp-IsAntisymmetric nat_cmp-IsAntisymmetric) nat_cmp-IsAntisymmetric))
 
 -- a layer from its key and arguments
 layer : ℕ → ℤ → List ℕ → List Term → Term-F Term
@@ -200,7 +207,8 @@ unfolding Turns
 lists_turn [] [] a = refl
 lists_turn [] (y ∷ ys) a = refl
 lists_turn (x ∷ xs) [] a = refl
-lists_turn (x ∷ xs) (y ∷ ys) a = (λ i. ordering_then (a.0 y i) (lists_turn xs ys a.1 i)) ∙ then_flip (term_cmp y x) (slice_cmp term_cmp ys xs)
+lists_turn (x ∷ xs) (y ∷ ys) a = (λ i. ordering_then (a.0 y i) (lists_turn xs ys a.1 i))
+    ∙ then_flip (term_cmp y x) (slice_cmp term_cmp ys xs)
 
 term_cmp_turns : (x y : Term) → term_cmp x y ≡ ordering_reverse (term_cmp y x)
 unfolding Turns
@@ -220,9 +228,11 @@ then_goes : {K : Type 0} (R : K → K → Ordering) → IsTotalOrder R → (x y 
     → ordering_then (R x y) p ≡ Less → ordering_then (R y z) q ≡ Less → ordering_then (R x z) r ≡ Less
 then_goes R o x y z p q r go = at (R x y) refl (R y z) refl
   where
-    at : (c : Ordering) → R x y ≡ c → (d : Ordering) → R y z ≡ d → ordering_then c p ≡ Less → ordering_then d q ≡ Less → ordering_then (R x z) r ≡ Less
+    at : (c : Ordering) → R x y ≡ c → (d : Ordering) → R y z ≡ d → ordering_then c p ≡ Less → ordering_then d q ≡ Less
+        → ordering_then (R x z) r ≡ Less
     at Less e Less f g h = ap (λ c. ordering_then c r) (o.trans x y z e f)
-    at Less e Equal f g h = ap (λ c. ordering_then c r) (o.antisymm x z ∙ ap ordering_reverse (sym (o.congr y z x f)) ∙ sym (o.antisymm x y) ∙ e)
+    at Less e Equal f g h = ap (λ c. ordering_then c r) (o.antisymm x z ∙ ap ordering_reverse (sym (o.congr y z x f)) ∙ sym (o.antisymm x y)
+        ∙ e)
     at Equal e Less f g h = ap (λ c. ordering_then c r) (o.congr x y z e ∙ f)
     at Equal e Equal f g h = ap (λ c. ordering_then c r) (o.congr x y z e ∙ f) ∙ go g h
     at Greater e d f g h = absurd (less_greater g)
@@ -234,7 +244,8 @@ then_goes R o x y z p q r go = at (R x y) refl (R y z) refl
         less_greater : Greater ≡ Less → ⊥
         less_greater g = cc
 
-lists_go : (xs ys zs : List Term) → Each Goes xs → slice_cmp term_cmp xs ys ≡ Less → slice_cmp term_cmp ys zs ≡ Less → slice_cmp term_cmp xs zs ≡ Less
+lists_go : (xs ys zs : List Term) → Each Goes xs → slice_cmp term_cmp xs ys ≡ Less → slice_cmp term_cmp ys zs ≡ Less
+    → slice_cmp term_cmp xs zs ≡ Less
 unfolding Goes
 lists_go [] [] zs a g h = h
 lists_go [] (y ∷ ys) [] a g h = cc
@@ -243,12 +254,15 @@ lists_go (x ∷ xs) [] zs a g h = cc
 lists_go (x ∷ xs) (y ∷ ys) [] a g h = cc
 lists_go (x ∷ xs) (y ∷ ys) (z ∷ zs) a g h = at (term_cmp x y) refl (term_cmp y z) refl g h (lists_go xs ys zs a.1)
   where
-    at : (c : Ordering) → term_cmp x y ≡ c → (d : Ordering) → term_cmp y z ≡ d → ordering_then c (slice_cmp term_cmp xs ys) ≡ Less → ordering_then d (slice_cmp term_cmp ys zs) ≡ Less
-        → (slice_cmp term_cmp xs ys ≡ Less → slice_cmp term_cmp ys zs ≡ Less → slice_cmp term_cmp xs zs ≡ Less) → ordering_then (term_cmp x z) (slice_cmp term_cmp xs zs) ≡ Less
+    at : (c : Ordering) → term_cmp x y ≡ c → (d : Ordering) → term_cmp y z ≡ d → ordering_then c (slice_cmp term_cmp xs ys) ≡ Less
+        → ordering_then d (slice_cmp term_cmp ys zs) ≡ Less
+        → (slice_cmp term_cmp xs ys ≡ Less → slice_cmp term_cmp ys zs ≡ Less → slice_cmp term_cmp xs zs ≡ Less)
+        → ordering_then (term_cmp x z) (slice_cmp term_cmp xs zs) ≡ Less
     at Less e Less f g h more = ap (λ c. ordering_then c (slice_cmp term_cmp xs zs)) (a.0 y z e f)
     at Less e Equal f g h more = ap (λ c. ordering_then c (slice_cmp term_cmp xs zs)) (ap (term_cmp x) (sym (term_cmp_same y z f)) ∙ e)
     at Equal e Less f g h more = ap (λ c. ordering_then c (slice_cmp term_cmp xs zs)) (ap (λ t. term_cmp t z) (term_cmp_same x y e) ∙ f)
-    at Equal e Equal f g h more = ap (λ c. ordering_then c (slice_cmp term_cmp xs zs)) (ap (λ t. term_cmp t z) (term_cmp_same x y e) ∙ f) ∙ more g h
+    at Equal e Equal f g h more = ap (λ c. ordering_then c (slice_cmp term_cmp xs zs)) (ap (λ t. term_cmp t z) (term_cmp_same x y e) ∙ f)
+        ∙ more g h
     at Greater e d f g h more = cc
     at c e Greater f g h more = cc
 

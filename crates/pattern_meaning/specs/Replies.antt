@@ -1,15 +1,16 @@
 -- The replies to lines, as data and as text, and what a list of replies leaves.
-use Rattle.std.specs.Prelude.{◌≡◌, ℕ, ◌+◌, not, ◌&&◌, Option, List, [], ◌∷◌, ◌++◌, codes, decimal}
+use Rattle.std.specs.Prelude.{◌≡◌, ℕ, ◌+◌, Bool, true, false, not, ◌&&◌, Option, if◌then◌else◌, List, [], ◌∷◌, ◌++◌, codes, decimal}
 use Rattle.std.specs.List.{flat_map}
 use Rattle.ordered_lists.specs.Canon.{canon, has}
 use Rattle.ordered_lists.specs.Members.{without}
+use Rattle.ev_term.specs.Bytes.{feed, space, plus, minus}
 use Rattle.ev_term.specs.EventOrder.{detection_cmp}
 use Rattle.ev_term.specs.Text.{atom_text}
-use Rattle.ev_term.specs.Presence.{Said, Verdict, Taken, Refused, verdict, after_verdict, present}
+use Rattle.ev_term.specs.Presence.{History, no_history, settled, settles, in_batch, extended, Said, Verdict, Accepted, Refused, verdict, after_verdict, present}
 use Rattle.ev_term.specs.declared.inputs.Input.{Input}
-use Rattle.ev_term.specs.declared.inputs.Input.TheVariants.{Add, Take, Advance, Nothing}
+use Rattle.ev_term.specs.declared.inputs.Input.TheVariants.{Nothing}
 use Rattle.ev_term.specs.declared.inputs.Refusal.{Refusal}
-use Rattle.ev_term.specs.declared.inputs.Refusal.TheVariants.{Syntax, Below, Absent}
+use Rattle.ev_term.specs.declared.inputs.Refusal.TheVariants.{Syntax, Batch, Below, Absent}
 use Rattle.ev_term.specs.declared.events.Detection.{Detection}
 use Rattle.rule_ast.specs.Trees.{PlainStatement}
 use Rattle.pattern_meaning.specs.Standing.{standing}
@@ -25,9 +26,13 @@ pub record Change : Type 0 where
 abbrev pub change_between : List Detection → List Detection → Change
 change_between before after = record { gone = without detection_cmp before after; come = without detection_cmp after before }
 
+-- what stands after a history: over the events that are present by its groups
+abbrev pub standing_after : List PlainStatement → History → List Detection
+standing_after statements h = standing statements (present (settled h))
+
 -- the change that one more input makes after a history
-abbrev pub change_by : List PlainStatement → List Input → Input → Change
-change_by statements history input = change_between (standing statements (present history)) (standing statements (present (history ++ input ∷ [])))
+abbrev pub change_by : List PlainStatement → History → Input → Change
+change_by statements h input = change_between (standing_after statements h) (standing_after statements (extended h input))
 
 -- none, the refusal of line n, or the change that line n makes
 pub data Reply : Type 0 where
@@ -35,23 +40,28 @@ pub data Reply : Type 0 where
   Refusing : ℕ → Refusal → Reply
   Changing : ℕ → Change → Reply
 
--- to an input that is taken; one that says nothing has none
-abbrev pub reply_to_input : List PlainStatement → List Input → ℕ → Input → Reply
-reply_to_input statements history n (Add e) = Changing n (change_by statements history (Add e))
-reply_to_input statements history n (Take e) = Changing n (change_by statements history (Take e))
-reply_to_input statements history n (Advance t) = Changing n (change_by statements history (Advance t))
-reply_to_input statements history n Nothing = Silent
+abbrev pub says_nothing : Input → Bool
+says_nothing Nothing = true
+says_nothing input = false
 
--- the reply to line n, which is judged so after this history
-abbrev pub reply : List PlainStatement → List Input → ℕ → Verdict → Reply
-reply statements history n (Taken input) = reply_to_input statements history n input
-reply statements history n (Refused why) = Refusing n why
+-- whether an input that is accepted has a reply: one that settles something and isn't `Nothing`
+abbrev pub is_told : History → Input → Bool
+is_told h input = settles h input && not (says_nothing input)
+
+-- to line n, whose input is accepted
+abbrev pub reply_to_input : List PlainStatement → History → ℕ → Input → Reply
+reply_to_input statements h n input = if is_told h input then Changing n (change_by statements h input) else Silent
+
+-- to line n, which is judged so after this history
+abbrev pub reply : List PlainStatement → History → ℕ → Verdict → Reply
+reply statements h n (Accepted input) = reply_to_input statements h n input
+reply statements h n (Refused why) = Refusing n why
 
 -- ---- their texts, of which each line ends with a line feed
 
 -- the line of a detection behind its sign: `+ START END ATOM` or `- START END ATOM`
 abbrev pub change_text : ℕ → Detection → List ℕ
-change_text sign d = sign ∷ 32 ∷ (decimal d.span.start ++ 32 ∷ (decimal d.span.end ++ 32 ∷ (atom_text d.atom ++ 10 ∷ [])))
+change_text sign d = sign ∷ space ∷ (decimal d.span.start ++ space ∷ (decimal d.span.end ++ space ∷ (atom_text d.atom ++ feed ∷ [])))
 
 abbrev pub change_texts : ℕ → List Detection → List ℕ
 change_texts sign detections = flat_map (change_text sign) detections
@@ -61,15 +71,27 @@ ok_text n = codes "ok " ++ decimal n ++ codes "\n"
 
 abbrev pub refusal_text : ℕ → Refusal → List ℕ
 refusal_text n (Syntax at) = codes "no " ++ decimal n ++ codes " syntax " ++ decimal at ++ codes "\n"
+refusal_text n Batch = codes "no " ++ decimal n ++ codes " batch\n"
 refusal_text n (Below bound) = codes "no " ++ decimal n ++ codes " below " ++ decimal bound ++ codes "\n"
 refusal_text n Absent = codes "no " ++ decimal n ++ codes " absent\n"
 
-abbrev pub end_text : ℕ → List ℕ
-end_text n = codes "end " ++ decimal n ++ codes "\n"
+-- the last line: how many lines came, and whether a batch is open behind them
+abbrev pub end_text : ℕ → Bool → List ℕ
+end_text n false = codes "end " ++ decimal n ++ codes "\n"
+end_text n true = codes "end " ++ decimal n ++ codes " open\n"
+
+-- how many rows and events are held
+abbrev pub held_text : ℕ → ℕ → List ℕ
+held_text rows events = codes "held " ++ decimal rows ++ codes " " ++ decimal events ++ codes "\n"
+
+-- how many detections were told and withdrawn over a drill, how many visits were made, and the most rows held
+abbrev pub drill_text : (told withdrawn visits held : ℕ) → List ℕ
+drill_text told withdrawn visits held =
+    codes "drill " ++ decimal told ++ codes " " ++ decimal withdrawn ++ codes " " ++ decimal visits ++ codes " " ++ decimal held ++ codes "\n"
 
 -- a change: what goes behind `-`, and then what comes behind `+`
 abbrev pub both_texts : Change → List ℕ
-both_texts c = change_texts 45 c.gone ++ change_texts 43 c.come
+both_texts c = change_texts minus c.gone ++ change_texts plus c.come
 
 abbrev pub reply_text : Reply → List ℕ
 reply_text Silent = []
@@ -78,20 +100,25 @@ reply_text (Changing n c) = both_texts c ++ ok_text n
 
 -- ---- the replies to a list of lines
 
--- what lines have come to: the rules, the lateness, the inputs that were taken, and how many lines came
+-- what lines have come to: the rules, the lateness, the history of the inputs that were accepted, and how many lines came
 pub record State : Type 0 where
   pub rules : List PlainStatement
   pub late : Option ℕ
-  pub history : List Input
+  pub history : History
   pub count : ℕ
 
 -- before the first line
 abbrev pub start : List PlainStatement → Option ℕ → State
-start rules late = record { rules = rules; late = late; history = []; count = 0 }
+start rules late = record { rules = rules; late = late; history = no_history; count = 0 }
 
 -- after a line that says so
 abbrev pub after_said : State → Said → State
-after_said s said = record { rules = s.rules; late = s.late; history = after_verdict s.history (verdict s.late s.history said); count = s.count + 1 }
+after_said s said = record {
+  rules = s.rules;
+  late = s.late;
+  history = after_verdict s.history (verdict s.late s.history said);
+  count = s.count + 1;
+}
 
 abbrev pub reply_to_said : State → Said → Reply
 reply_to_said s said = reply s.rules s.history (s.count + 1) (verdict s.late s.history said)

@@ -120,7 +120,7 @@ fn documented_outputs(rt: HostRuntime) -> Result<(), Fail> {
 
 // Late events, retractions, the bound, and lines that are refused.
 #[test]
-fn lines_are_taken_or_refused(rt: HostRuntime) -> Result<(), Fail> {
+fn lines_are_accepted_or_refused(rt: HostRuntime) -> Result<(), Fail> {
     let plain: &[&str] = &["run", "r"];
     let rows: [(&[&str], &[u8], &[u8], &[u8]); 13] = [
         (
@@ -200,6 +200,88 @@ fn lines_are_taken_or_refused(rt: HostRuntime) -> Result<(), Fail> {
     for row in rows {
         writes(&rt, row.0, row.1, row.2, row.3)?;
     }
+    Ok(())
+}
+
+// Events that last: their rows, the times that count, and where a span goes wrong.
+#[test]
+fn events_last(rt: HostRuntime) -> Result<(), Fail> {
+    let rows: [(&[&str], &[u8], &[u8], &[u8]); 3] = [
+        (
+            &["run", "r"],
+            b"p <- x DURING i.",
+            b"+ 1..9 i\n+ 3..5 x\n- 1..9 i\n",
+            b"ok 1\n+ 1 9 p\nok 2\n- 1 9 p\nok 3\nend 3\n",
+        ),
+        (
+            &["run", "r", "--late", "5"],
+            AB,
+            b"+ 1..20 a(7)\n+ 10..15 a(8)\n+ 10..14 a(9)\n",
+            b"ok 1\nok 2\nno 3 below 15\nend 3\n",
+        ),
+        (
+            &["run", "r"],
+            AB,
+            b"+ 5..3 a\n+ 5.3 a\n+ 5 a(1)\n- 5..5 a(1)\n+ 5..\n! 3..4\n+ 5..7\n",
+            b"no 1 syntax 5\nno 2 syntax 4\nok 3\nok 4\nno 5 syntax 5\nno 6 syntax 3\nno 7 syntax 6\nend 7\n",
+        ),
+    ];
+    for row in rows {
+        writes(&rt, row.0, row.1, row.2, row.3)?;
+    }
+    Ok(())
+}
+
+// Batches: one that cancels itself, one that comes in any order and raises the bound at its end, words that are misplaced, one that is
+// dropped, and the net change of one that takes back and brings.
+#[test]
+fn batches_are_one_step(rt: HostRuntime) -> Result<(), Fail> {
+    let rows: [(&[&str], &[u8], &[u8], &[u8]); 5] = [
+        (
+            &["run", "r"],
+            AB,
+            b"begin\n+ 1 a(7)\n+ 2 b(7)\n- 1 a(7)\ncommit\n",
+            b"ok 5\nend 5\n",
+        ),
+        (
+            &["run", "r", "--late", "0"],
+            AB,
+            b"begin\n+ 10 b(7)\n+ 5 a(7)\ncommit\n+ 9 a(7)\n",
+            b"+ 5 10 ab(7)\nok 4\nno 5 below 10\nend 5\n",
+        ),
+        (
+            &["run", "r"],
+            AB,
+            b"commit\nbegin\n begin \n- 1 a(7)\n+ 1 a(7)\n",
+            b"no 1 batch\nno 3 batch\nno 4 absent\nend 5 open\n",
+        ),
+        (
+            &["run", "r"],
+            AB,
+            b"+ 1 a(7)\n+ 3 b(7)\nbegin\n- 3 b(7)\n+ 4 b(7)\n- 4 b(8)\n+ 5 b(9)\n- 5 b(9)\n\ncommit",
+            b"ok 1\n+ 1 3 ab(7)\nok 2\nno 6 absent\n- 1 3 ab(7)\n+ 1 4 ab(7)\nok 10\nend 10\n",
+        ),
+        (
+            &["run", "r"],
+            AB,
+            b"begin\n! 5\n+ 4 a(7)\ncommit\n+ 4 b(7)\nbeginx\nbe\ncomit\n",
+            b"ok 4\nno 5 below 5\nno 6 syntax 5\nno 7 syntax 2\nno 8 syntax 3\nend 8\n",
+        ),
+    ];
+    for row in rows {
+        writes(&rt, row.0, row.1, row.2, row.3)?;
+    }
+    Ok(())
+}
+
+// A rule file of one byte more than may be.
+#[test]
+fn a_rule_file_is_too_long(rt: HostRuntime) -> Result<(), Fail> {
+    let file = vec![in rt.alloc(); b' '; 1_048_577]?;
+    let ran = run_over(rt.alloc(), &["run", "r"], &file, b"+ 1 a(7)\n", CALM)?;
+    assert_eq!(rt; ran.status, Status::RulesRefused);
+    assert_eq!(rt; ran.out.bytes(), b"".as_slice());
+    assert_eq!(rt; ran.notes.bytes(), b"etalis: rules: over 1048576 bytes\n".as_slice());
     Ok(())
 }
 
