@@ -1,5 +1,5 @@
 -- One rule more, in loops over rules.
-use Rattle.std.proofs.Common.{Bor, ◌≡◌, ℕ, ◌+◌, ◌<◌, ◌≤◌, true, Some, List, [], ◌∷◌, ◌++◌, length, get_or, take, drop, ap, sym, ◌∙◌, arith, append_assoc, append-nil, length-append, length-take, ◌⊎◌, inl, inr}
+use Rattle.std.proofs.Common.{Bor, ◌≡◌, ℕ, ◌+◌, ◌<◌, ◌^◌, true, Some, List, [], ◌∷◌, ◌++◌, length, get_or, take, drop, ap, sym, ◌∙◌, arith, append_assoc, append-nil, length-append, length-take, ◌⊎◌, inl, inr}
 use Rattle.std.specs.List.{list_all}
 use Rattle.std.proofs.lemmas.Bool.{and_parts}
 use Rattle.std.proofs.lemmas.List.{take_more, take-append-drop, map-append, length-map}
@@ -31,11 +31,11 @@ module _ (xs : List (Bor Rule)) (i : ℕ) (x : Bor Rule) (h : i < length xs) (is
   pub rule_shaped : AreShaped (rules_at xs) → is_shaped_rule (plain_rule x.now) ≡ true
   rule_shaped s = shaped_among (rules_at (take i xs)) (rules_at (drop (i + 1) xs)) (plain_rule x.now) (ap (list_all is_shaped_rule) (sym rule_among) ∙ s.each)
 
--- the rules behind which one stands are fewer than a number holds
-pub few_before : (xs : List (Bor Rule)) (i : ℕ) → AreShaped (rules_at xs) → length (rules_at (take i xs)) ≤ 1024
-few_before xs i s =
+-- the number of the next rule is one that a number holds
+pub few_before : (xs : List (Bor Rule)) (i : ℕ) → i < length xs → AreShaped (rules_at xs) → length (rules_at (take i xs)) + 1 < 2 ^ 32
+few_before xs i h s =
     let few = s.few in
-    omega (arith, few, length-map xs (λ r. plain_rule r.now), length-map (take i xs) (λ r. plain_rule r.now), length-take i xs)
+    omega (arith, h, few, length-map xs (λ r. plain_rule r.now), length-map (take i xs) (λ r. plain_rule r.now), length-take i xs)
 
 -- ---- faults of variables
 

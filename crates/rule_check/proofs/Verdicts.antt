@@ -96,7 +96,7 @@ module _ (rules : List PlainRule) (heads : List NameArity) (is : heads ≡ first
   pub graph_nodes : IsGraph graph
   graph_nodes = subst IsGraph (sym built) (graph_is heads rules)
 
-  pub few_nodes : length rules ≤ 1024 → length graph < 2 ^ 32
+  pub few_nodes : length rules < 2 ^ 32 → length graph < 2 ^ 32
   few_nodes few = let a = few_heads rules heads is in omega (arith, few, a, ap length built, graph_length heads rules)
 
   pub cycle_somewhere : HasCycle graph → AreAcyclic rules rules → ⊥

@@ -1,6 +1,6 @@
 -- Visits of a graph that give each node a rank above those of its targets.
 use Rattle.std.proofs.Common.{◌≡◌, ℕ, zero, suc, ◌+◌, ◌<◌, ◌≤◌, max, Bool, true, false, cond, ◌||◌, ◌==◌, List, [], ◌∷◌, ◌++◌, length, get_or, set, replicate, map, refl, ap, sym, subst, ◌∙◌, ◌⊎◌, inl, inr, arith}
-use Rattle.std.proofs.lemmas.Bool.{true≢false, cases_eq}
+use Rattle.std.proofs.lemmas.Bool.{true≢false, cases_eq, both_ways, or_right}
 use Rattle.std.proofs.lemmas.List.{get_or-set_same, get_or-set_other, map-append, length-map, length-replicate}
 use Rattle.rule_ast.specs.Vars.{is_in, is_in-none, is_in-cons}
 use Rattle.rule_check.specs.Graphs.{Reaches, stop, step, Returns, greatest, leads, targets, mark_at, is_open, is_new, is_ranked, rank_of, rank_at, tally, AreRanked, Follows, OpenLead, Visited, IsRankList, RankedBelow}
@@ -34,11 +34,7 @@ map_agree : (f g : ℕ → ℕ) (xs : List ℕ) → ((j : ℕ) → is_in j xs �
 map_agree f g [] h = refl
 map_agree f g (x ∷ xs) h =
     λ i. h x (is_in-cons x x xs ∙ ap (λ b. b || is_in x xs) ((Decides-eqb x x).1 refl)) i
-    ∷ map_agree f g xs (λ j e. h j (is_in-cons j x xs ∙ ap (λ b. (x == j) || b) e ∙ any (x == j))) i
-  where
-    any : (b : Bool) → (b || true) ≡ true
-    any true = refl
-    any false = refl
+    ∷ map_agree f g xs (λ j e. h j (is_in-cons j x xs ∙ or_right (x == j) (is_in j xs) e)) i
 
 greatest-more : (xs : List ℕ) (x : ℕ) → greatest (xs ++ x ∷ []) ≡ max (greatest xs) x
 greatest-more [] x = omega arith
@@ -48,15 +44,8 @@ greatest_few : (f : ℕ → ℕ) (xs : List ℕ) (n : ℕ) → ((j : ℕ) → is
 greatest_few f [] n h = omega arith
 greatest_few f (x ∷ xs) n h =
     let first = h x (is_in-cons x x xs ∙ ap (λ b. b || is_in x xs) ((Decides-eqb x x).1 refl)) in
-    let more = greatest_few f xs n (λ j e. h j (is_in-cons j x xs ∙ ap (λ b. (x == j) || b) e ∙ any (x == j))) in
+    let more = greatest_few f xs n (λ j e. h j (is_in-cons j x xs ∙ or_right (x == j) (is_in j xs) e)) in
     omega (arith, first, more)
-  where
-    any : (b : Bool) → (b || true) ≡ true
-    any true = refl
-    any false = refl
-
-clash : {P : Type 0} (b : Bool) → b ≡ false → b ≡ true → P
-clash b e f = absurd (true≢false (sym f ∙ e))
 
 open_unranked : (m : Mark) → is_open m ≡ true → is_ranked m ≡ false
 open_unranked New e = refl
@@ -110,11 +99,11 @@ module _ (graph : List (List ℕ)) where
       }
         where
           back : (i : ℕ) → (i ≡ node) ⊎ (i ≡ node → ⊥) → is_ranked (mark_at (set old node Open) i) ≡ true → mark_at (set old node Open) i ≡ mark_at old i
-          back i (inl e) r = clash (is_ranked (mark_at (set old node Open) i)) (ap (λ k. is_ranked (mark_at (set old node Open) k)) e ∙ ap is_ranked opened) r
+          back i (inl e) r = absurd (both_ways (is_ranked (mark_at (set old node Open) i)) (ap (λ k. is_ranked (mark_at (set old node Open) k)) e ∙ ap is_ranked opened) r)
           back i (inr d) r = other Open i d
 
           forth : (i : ℕ) → (i ≡ node) ⊎ (i ≡ node → ⊥) → is_ranked (mark_at old i) ≡ true → mark_at (set old node Open) i ≡ mark_at old i
-          forth i (inl e) r = clash (is_ranked (mark_at old i)) (ap (λ k. is_ranked (mark_at old k)) e ∙ ap is_ranked new) r
+          forth i (inl e) r = absurd (both_ways (is_ranked (mark_at old i)) (ap (λ k. is_ranked (mark_at old k)) e ∙ ap is_ranked new) r)
           forth i (inr d) r = other Open i d
 
       -- the measure falls
@@ -181,7 +170,7 @@ module _ (graph : List (List ℕ)) where
         elsewhere i d = get_or-set_other now node i (Ranked (top + 1)) New d
 
         still : (i : ℕ) → is_ranked (mark_at now i) ≡ true → mark_at final i ≡ mark_at now i
-        still i r = elsewhere i (λ e. clash (is_ranked (mark_at now i)) (ap (λ k. is_ranked (mark_at now k)) e ∙ open_unranked (mark_at now node) open_now) r)
+        still i r = elsewhere i (λ e. absurd (both_ways (is_ranked (mark_at now i)) (ap (λ k. is_ranked (mark_at now k)) e ∙ open_unranked (mark_at now node) open_now) r))
 
         was : (i : ℕ) → (i ≡ node → ⊥) → is_ranked (mark_at final i) ≡ true → is_ranked (mark_at now i) ≡ true
         was i d r = ap is_ranked (sym (elsewhere i d)) ∙ r
@@ -213,7 +202,7 @@ module _ (graph : List (List ℕ)) where
             omega (arith, is, few, count)
 
         kept : (i : ℕ) → (i ≡ node) ⊎ (i ≡ node → ⊥) → is_ranked (mark_at old i) ≡ true → mark_at final i ≡ mark_at old i
-        kept i (inl e) r = clash (is_ranked (mark_at old i)) (ap (λ k. is_ranked (mark_at old k)) e ∙ ap is_ranked new) r
+        kept i (inl e) r = absurd (both_ways (is_ranked (mark_at old i)) (ap (λ k. is_ranked (mark_at old k)) e ∙ ap is_ranked new) r)
         kept i (inr d) r = elsewhere i d ∙ v.follows.ranked i (ap is_ranked (other Open i d) ∙ r) ∙ other Open i d
 
         as_before : (i : ℕ) → (i ≡ node) ⊎ (i ≡ node → ⊥) → is_open (mark_at final i) ≡ is_open (mark_at old i)
@@ -263,7 +252,7 @@ none_ranked graph n is = record {
 }
 
 pub none_open : (graph : List (List ℕ)) (marks : List Mark) (below node : ℕ) → RankedBelow graph marks below → OpenLead graph marks node
-none_open graph marks below node r i e = clash (is_open (mark_at marks i)) (r.closed i) e
+none_open graph marks below node r i e = absurd (both_ways (is_open (mark_at marks i)) (r.closed i) e)
 
 pub one_ranked : (graph : List (List ℕ)) (marks new : List Mark) (node rank : ℕ) → RankedBelow graph marks node → length new ≡ length marks → Visited graph node rank marks new → RankedBelow graph new (node + 1)
 one_ranked graph marks new node rank r same v = record {

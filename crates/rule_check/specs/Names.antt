@@ -45,4 +45,6 @@ unknown_shows number heads (n ∷ names) = cond (has name_cmp n heads) [] (numbe
 
 -- each shown name heads a rule
 abbrev pub AreShownKnown : List PlainStatement → Type 0
-AreShownKnown statements = (n : NameArity) → has name_cmp n (shown_names statements) ≡ true → has name_cmp n (head_names (rules_of statements)) ≡ true
+AreShownKnown statements =
+    (n : NameArity) → has name_cmp n (shown_names statements) ≡ true
+    → has name_cmp n (head_names (rules_of statements)) ≡ true

@@ -27,12 +27,16 @@ show_faults statements = map (λ k. ShowUnknown k) (unknown_shows 1 (head_names 
 abbrev pub early_faults : List PlainStatement → List CheckFault
 early_faults statements = variable_faults 1 (rules_of statements) ++ show_faults statements
 
+-- the fault names the first rule on a cycle
+abbrev pub IsCycleFault : CheckFault → List PlainRule → Type 0
+IsCycleFault fault rules = (k : ℕ) × (fault ≡ Cycle k) × IsFirstCycle rules 1 rules k
+
 -- the fault is the first, or memory ran out
 abbrev pub IsRefusal : CheckFault → List PlainStatement → Type 0
 IsRefusal fault statements =
     (fault ≡ Memory)
     ⊎ ((first (early_faults statements) ≡ Some fault)
-    ⊎ ((early_faults statements ≡ []) × ((k : ℕ) × (fault ≡ Cycle k) × IsFirstCycle (rules_of statements) 1 (rules_of statements) k)))
+    ⊎ ((early_faults statements ≡ []) × IsCycleFault fault (rules_of statements)))
 
 -- these are the ranks of the names that head rules, and no rule is on a cycle
 pub record AreNameRanks (rules : List PlainRule) (heads : List NameArity) (ranks : List ℕ) : Type 0 where

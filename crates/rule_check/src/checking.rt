@@ -5,14 +5,13 @@ ghost use Rattle.ev_term.specs.EventOrder.{name_cmp};
 ghost use Rattle.rule_ast.specs.Plain.{plain_rules, plain_statement};
 ghost use Rattle.rule_ast.specs.Shaped.{IsShaped};
 ghost use Rattle.rule_ast.specs.Shown.{shown_names};
-ghost use Rattle.rule_check.specs.Cycles.{IsFirstCycle};
 ghost use Rattle.rule_check.specs.Faults.{IsVerdict};
 ghost use Rattle.rule_check.specs.Gathered.{rules_at, AreShaped};
 ghost use Rattle.rule_check.specs.Names.{head_names, outputs};
 ghost use Rattle.rule_check.specs.Numbers.{first_seen};
 ghost use Rattle.rule_check.specs.Sound.{rules_of};
-ghost use Rattle.rule_check.specs.Verdict.{IsSound, IsRefusal, AreNameRanks, show_faults};
-ghost use Rattle.rule_check.specs.declared.faults.CheckFault.TheVariants.{Cycle, Memory};
+ghost use Rattle.rule_check.specs.Verdict.{IsSound, IsRefusal, IsCycleFault, AreNameRanks, show_faults};
+ghost use Rattle.rule_check.specs.declared.faults.CheckFault.TheVariants.{Memory};
 
 use crate::checked::Checked;
 use crate::dependencies::{first_cycle, graph_of};
@@ -76,7 +75,7 @@ fn rank_heads(alloc: Global, rules: &[&Rule], heads: &Numbers) -> Result<Vec<u32
     requires shaped { AreShaped (rules_at rules.now) }
     requires heads { heads.now ≡ first_seen (head_names (rules_at rules.now)) }
     ensures ranks { IfOk result (λ v. AreNameRanks (rules_at rules.now) heads.now v.items) }
-    ensures cycle { IfErr result (λ f. (f ≡ Memory) ⊎ ((k : ℕ) × (f ≡ Cycle k) × IsFirstCycle (rules_at rules.now) 1 (rules_at rules.now) k)) }
+    ensures cycle { IfErr result (λ f. (f ≡ Memory) ⊎ IsCycleFault f (rules_at rules.now)) }
 {
     let graph = graph_of(alloc, rules, heads)?;
     match ranks_of(alloc, &graph)? {

@@ -1,14 +1,14 @@
 // The graph of the names that head rules, and the rules on a cycle.
-ghost use Rattle.std.specs.Prelude.{◌≡◌, ℕ, ◌++◌, List, [], Some, true, length, slice_set, IfOk, OnOk};
+ghost use Rattle.std.specs.Prelude.{◌≡◌, ℕ, ◌++◌, List, [], Some, true, length, IfOk, OnOk};
 ghost use Rattle.std.specs.Bool.{Decides};
 ghost use Rattle.ordered_lists.specs.Canon.{has};
 ghost use Rattle.ev_term.specs.EventOrder.{name_cmp};
 ghost use Rattle.ev_term.specs.declared.atoms.NameArity.{NameArity};
 ghost use Rattle.rule_ast.specs.Plain.{plain_pattern, plain_rule};
 ghost use Rattle.rule_ast.specs.Trees.{PlainRule};
-ghost use Rattle.rule_check.specs.Cycles.{graph_of, IsOnCycle, IsCycleAnswer};
+ghost use Rattle.rule_check.specs.Cycles.{graph_of, IsOnCycle, IsCycleAnswer, IsRowGrown};
 ghost use Rattle.rule_check.specs.Gathered.{rules_at, AreShaped};
-ghost use Rattle.rule_check.specs.Graphs.{IsGraph, targets};
+ghost use Rattle.rule_check.specs.Graphs.{IsGraph};
 ghost use Rattle.rule_check.specs.Names.{body_names, head_name, head_names};
 ghost use Rattle.rule_check.specs.Numbers.{first_seen, place, places, AreNarrow};
 
@@ -87,8 +87,7 @@ fn add_rule(
     requires narrow { AreNarrow heads.now }
     requires known { has name_cmp (head_name (plain_rule rule.now)) heads.now ≡ true }
     requires sized { length rows.old.items ≡ length heads.now }
-    ensures { OnOk result ((i : ℕ) → place heads.now (head_name (plain_rule rule.now)) ≡ Some i
-        → rows.new.items ≡ slice_set rows.old.items i (targets rows.old.items i ++ places heads.now (body_names (plain_pattern rule.now.body)))) }
+    ensures { OnOk result (IsRowGrown heads.now (plain_rule rule.now) rows.old.items rows.new.items) }
 {
     let mut nodes = Vec::new(alloc);
     push_nodes(&mut nodes, heads, &rule.body)?;
@@ -124,8 +123,9 @@ fn is_on_cycle(
     requires known { has name_cmp (head_name (plain_rule rule.now)) heads.now ≡ true }
     requires sized { length graph.now ≡ length heads.now }
     requires graph { IsGraph graph.now }
-    ensures { IfOk result (λ b. (rules : List PlainRule) → ((n : NameArity) → has name_cmp n heads.now ≡ has name_cmp n (head_names rules))
-        → graph.now ≡ graph_of heads.now rules → Decides b (IsOnCycle rules (plain_rule rule.now))) }
+    ensures { IfOk result (λ b. (rules : List PlainRule)
+        → ((n : NameArity) → has name_cmp n heads.now ≡ has name_cmp n (head_names rules)) → graph.now ≡ graph_of heads.now rules
+        → Decides b (IsOnCycle rules (plain_rule rule.now))) }
 {
     let mut nodes = Vec::new(alloc);
     push_nodes(&mut nodes, heads, &rule.body)?;

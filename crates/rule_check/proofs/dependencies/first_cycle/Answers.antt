@@ -10,7 +10,7 @@ use Rattle.rule_check.proofs.Cycling.{cycle_at, one_off}
 use Rattle.rule_check.proofs.dependencies.first_cycle.Goals as goal
 
 pub overflow_add-number : goal.overflow_add-number
-overflow_add-number c = let few = few_before c.args.rules.now c.loop-rule.rule-index c.requires.shaped in let counted = c.loop-rule.invariant.counted in omega (arith, few, counted)
+overflow_add-number c = let few = few_before c.args.rules.now c.loop-rule.rule-index c.loop-rule-test.true c.requires.shaped in let counted = c.loop-rule.invariant.counted in omega (arith, few, counted)
 
 pub is_on_cycle-requires-clause-narrow : goal.is_on_cycle-requires-clause-narrow
 is_on_cycle-requires-clause-narrow c = heads_are_narrow (rules_at c.args.rules.now) c.args.heads.now c.requires.heads c.requires.shaped

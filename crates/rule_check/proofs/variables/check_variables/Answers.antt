@@ -4,7 +4,7 @@ use Rattle.rule_check.proofs.CleanRules.{few_before, one_more, rule_shaped, rule
 use Rattle.rule_check.proofs.variables.check_variables.Goals as goal
 
 pub overflow_add-number : goal.overflow_add-number
-overflow_add-number c = let few = few_before c.args.rules.now c.loop-rule.rule-index c.requires in let counted = c.loop-rule.invariant.counted in omega (arith, few, counted)
+overflow_add-number c = let few = few_before c.args.rules.now c.loop-rule.rule-index c.loop-rule-test.true c.requires in let counted = c.loop-rule.invariant.counted in omega (arith, few, counted)
 
 pub check_rule-requires : goal.check_rule-requires
 check_rule-requires c = rule_shaped c.args.rules.now c.loop-rule.rule-index c.rule-item.result c.loop-rule-test.true c.rule-item.is c.requires
