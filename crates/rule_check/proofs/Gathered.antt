@@ -1,5 +1,5 @@
 -- The rules and the names of one statement more.
-use Rattle.std.proofs.Common.{Bor, ◌≡◌, ℕ, ◌+◌, ◌<◌, ◌≤◌, true, false, cond, ◌||◌, Some, List, [], ◌∷◌, ◌++◌, length, get_or, take, drop, map, refl, ap, sym, ◌∙◌, arith, append_assoc, append-nil, length-take-le, leb-true, ◌&&◌}
+use Rattle.std.proofs.Common.{Bor, ◌≡◌, ℕ, ◌+◌, ◌<◌, ◌≤◌, true, false, cond, ◌||◌, Some, List, [], ◌∷◌, ◌++◌, length, get_or, take, drop, map, refl, ap, sym, subst, ◌∙◌, arith, append_assoc, append-nil, length-take-le, leb-true, ◌&&◌}
 use Rattle.std.specs.List.{list_all}
 use Rattle.std.proofs.lemmas.Bool.{and_parts}
 use Rattle.std.proofs.lemmas.List.{take_more, take-append-drop, map-append}
@@ -114,8 +114,15 @@ each_shaped [] e = refl
 each_shaped (Clause r ∷ xs) e = let parts = and_parts (is_shaped_rule r) (list_all is_shaped_statement xs) e in ap (λ b. b && list_all is_shaped_rule (rules_of xs)) parts.0 ∙ each_shaped xs parts.1
 each_shaped (Show names ∷ xs) e = each_shaped xs (and_parts (is_shaped_statement (Show names)) (list_all is_shaped_statement xs) e).1
 
-pub shaped_rules : (xs : List PlainStatement) → IsShaped xs → AreShaped (rules_of xs)
+shaped_rules : (xs : List PlainStatement) → IsShaped xs → AreShaped (rules_of xs)
 shaped_rules xs s = record {
   few = let few = few_rules xs in let all : length xs ≤ 1024 = leb-true (length xs) 1024 s.few in omega (arith, few, all);
   each = each_shaped xs s.each;
 }
+
+-- the rules that are gathered from a file are its rules
+pub all_rules : (xs ys : List Statement) (rules slice : List (Bor Rule)) → slice ≡ rules → rules_at rules ≡ rules_of (map plain_statement ys) → ys ≡ xs → rules_at slice ≡ rules_of (map plain_statement xs)
+all_rules xs ys rules slice e is f = ap rules_at e ∙ is ∙ ap (λ l. rules_of (map plain_statement l)) f
+
+pub all_shaped : (xs ys : List Statement) (rules slice : List (Bor Rule)) → slice ≡ rules → rules_at rules ≡ rules_of (map plain_statement ys) → ys ≡ xs → IsShaped (map plain_statement xs) → AreShaped (rules_at slice)
+all_shaped xs ys rules slice e is f s = subst AreShaped (sym (all_rules xs ys rules slice e is f)) (shaped_rules (map plain_statement xs) s)

@@ -34,27 +34,10 @@ first_place (m ∷ names) n e = at (is_eq (name_cmp n m)) e (first_place names n
     at true f rest = refl
     at false f rest = ap (option_map suc) (rest f) ∙ ap Some (omega arith)
 
-last_place : (names : List NameArity) (n : NameArity) → has name_cmp n names ≡ false → place (names ++ n ∷ []) n ≡ Some (position_or_len (same n) names)
-last_place [] n e = ap (λ b. cond b (Some 0) None) (itself n)
-last_place (m ∷ names) n e = at (is_eq (name_cmp n m)) e (last_place names n)
-  where
-    at : (b : Bool) → (b || has name_cmp n names) ≡ false → (has name_cmp n names ≡ false → place (names ++ n ∷ []) n ≡ Some (position_or_len (same n) names))
-        → cond b (Some 0) (option_map suc (place (names ++ n ∷ []) n)) ≡ Some (cond (not b) (1 + position_or_len (same n) names) 0)
-    at true f rest = absurd (true≢false f)
-    at false f rest = ap (option_map suc) (rest f) ∙ ap Some (omega arith)
-
 -- what a look-up answers
 pub found_number : (names : List NameArity) (n : NameArity) (o : Option ℕ) → o ≡ position (same n) names → is_some o ≡ has name_cmp n names → o ≡ place names n
 found_number names n None p h = sym (no_place names n (sym h))
 found_number names n (Some i) p h = ap Some (at_place _ (position_or_len (same n) names) i p) ∙ sym (first_place names n (sym h))
-
--- and what an insertion answers
-pub given_number : (names : List NameArity) (n : NameArity) (i : ℕ) → i ≡ position_or_len (same n) names → place (with_seen names n) n ≡ Some i
-given_number names n i is = at (has name_cmp n names) refl ∙ ap Some (sym is)
-  where
-    at : (b : Bool) → has name_cmp n names ≡ b → place (cond b names (names ++ n ∷ [])) n ≡ Some (position_or_len (same n) names)
-    at true e = first_place names n e
-    at false e = last_place names n e
 
 -- ---- each name once
 

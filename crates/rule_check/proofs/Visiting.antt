@@ -1,7 +1,7 @@
 -- Visits of a graph that give each node a rank above those of its targets.
-use Rattle.std.proofs.Common.{◌≡◌, ℕ, zero, suc, ◌+◌, ◌<◌, ◌≤◌, max, Bool, true, false, cond, ◌||◌, ◌==◌, List, [], ◌∷◌, ◌++◌, length, get_or, set, replicate, map, refl, ap, sym, subst, ◌∙◌, ◌⊎◌, inl, inr, arith}
+use Rattle.std.proofs.Common.{◌≡◌, ℕ, zero, suc, ◌+◌, ◌<◌, ◌≤◌, max, Bool, true, false, cond, ◌||◌, ◌==◌, List, [], ◌∷◌, ◌++◌, length, get_or, set, map, refl, ap, sym, subst, ◌∙◌, ◌⊎◌, inl, inr, arith}
 use Rattle.std.proofs.lemmas.Bool.{true≢false, cases_eq, both_ways, or_right}
-use Rattle.std.proofs.lemmas.List.{get_or-set_same, get_or-set_other, map-append, length-map, length-replicate}
+use Rattle.std.proofs.lemmas.List.{get_or-set_same, get_or-set_other, map-append, length-map}
 use Rattle.rule_ast.specs.Vars.{is_in, is_in-none, is_in-cons}
 use Rattle.rule_check.specs.Graphs.{Reaches, stop, step, Returns, greatest, leads, targets, mark_at, is_open, is_new, is_ranked, rank_of, rank_at, tally, AreRanked, Follows, OpenLead, Visited, IsRankList, RankedBelow}
 use Rattle.rule_check.specs.declared.graph.Mark.{Mark}
@@ -226,45 +226,6 @@ module _ (graph : List (List ℕ)) where
                 omega (arith, t, f, ap ones (open_old (mark_at now node) open_now));
           };
         }
-
-    pub visited_already : (rank : ℕ) → mark_at old node ≡ Ranked rank → AreRanked graph old → Visited graph node rank old old
-    visited_already rank e a = record {
-      rank_is = e;
-      ranked = a;
-      follows = record { ranked = λ i r. refl; open_as_before = λ i. refl; fewer = omega arith };
-    }
-
-all_new : (n i : ℕ) → mark_at (replicate n New) i ≡ New
-all_new zero i = refl
-all_new (suc n) zero = refl
-all_new (suc n) (suc i) = all_new n i
-
-pub none_ranked : (graph : List (List ℕ)) (n : ℕ) → n ≡ length graph → RankedBelow graph (replicate n New) 0
-none_ranked graph n is = record {
-  sized = length-replicate n New ∙ is;
-  ranked = record {
-    below = λ i j r l. absurd (true≢false (sym r ∙ ap is_ranked (all_new n i)));
-    rank = λ i r. absurd (true≢false (sym r ∙ ap is_ranked (all_new n i)));
-    few = λ i r. absurd (true≢false (sym r ∙ ap is_ranked (all_new n i)));
-  };
-  closed = λ i. ap is_open (all_new n i);
-  done = λ i h. absurd (omega arith);
-}
-
-pub none_open : (graph : List (List ℕ)) (marks : List Mark) (below node : ℕ) → RankedBelow graph marks below → OpenLead graph marks node
-none_open graph marks below node r i e = absurd (both_ways (is_open (mark_at marks i)) (r.closed i) e)
-
-pub one_ranked : (graph : List (List ℕ)) (marks new : List Mark) (node rank : ℕ) → RankedBelow graph marks node → length new ≡ length marks → Visited graph node rank marks new → RankedBelow graph new (node + 1)
-one_ranked graph marks new node rank r same v = record {
-  sized = same ∙ r.sized;
-  ranked = v.ranked;
-  closed = λ i. v.follows.open_as_before i ∙ r.closed i;
-  done = λ i h. at i (cases_eq i node) h;
-}
-  where
-    at : (i : ℕ) → (i ≡ node) ⊎ (i ≡ node → ⊥) → i < node + 1 → is_ranked (mark_at new i) ≡ true
-    at i (inl e) h = ap (λ k. is_ranked (mark_at new k)) e ∙ ap is_ranked v.rank_is
-    at i (inr d) h = let old = r.done i (omega (arith, d, h)) in ap is_ranked (v.follows.ranked i old) ∙ old
 
 rank_in_list : (marks : List Mark) (i : ℕ) → get_or (map rank_of marks) i 0 ≡ rank_at marks i
 rank_in_list [] i = refl
