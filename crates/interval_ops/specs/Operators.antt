@@ -1,6 +1,7 @@
 -- The operators between two spans: which spans pair, on which span, and where the partners of a span lie.
-use Rattle.std.specs.Prelude.{ℕ, ◌+◌, ◌-◌, ◌^◌, ◌<◌, ◌≤◌, min, max, Bool, true, false, cond, ◌&&◌, ◌==◌, nat_lt, nat_le, Option, Some, None}
+use Rattle.std.specs.Prelude.{ℕ, ◌+◌, ◌-◌, ◌<◌, ◌≤◌, min, max, Bool, true, false, cond, ◌&&◌, ◌==◌, nat_lt, nat_le, Option, Some, None}
 use Rattle.ev_term.specs.Spans.{PlainSpan}
+use Rattle.ev_term.specs.declared.events.TheConstants.{TIME_LIMIT}
 use Rattle.ev_term.specs.declared.operators.Op.{Op}
 use Rattle.ev_term.specs.declared.operators.Op.TheVariants.{Seq, And, Par, Equals, Meets, During, Starts, Finishes}
 use Rattle.ev_term.specs.declared.operators.Edge.{Edge}
@@ -9,9 +10,9 @@ use Rattle.interval_ops.specs.declared.ranges.Side.{Side}
 use Rattle.interval_ops.specs.declared.ranges.Side.TheVariants.{Left, Right}
 use Rattle.interval_ops.specs.declared.ranges.Range.{Range}
 
--- from a start to an end that is no earlier, in ticks below 2^62
+-- from a start to an end that is no earlier, which is below the limit of times
 abbrev pub IsSpan : PlainSpan → Type 0
-IsSpan s = (s.start ≤ s.end) × (s.end < 2 ^ 62)
+IsSpan s = (s.start ≤ s.end) × (s.end < TIME_LIMIT)
 
 -- ---- the table of the operators
 
@@ -49,7 +50,7 @@ pair op x y = cond (pairs op x y) (Some (spanned op x y)) None
 
 -- the greatest tick
 abbrev pub last_tick : ℕ
-last_tick = 2 ^ 62 - 1
+last_tick = TIME_LIMIT - 1
 
 -- no tick
 abbrev pub empty_range : Edge → Range

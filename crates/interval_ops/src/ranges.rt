@@ -1,11 +1,8 @@
 // The table of the ranges in which partners lie.
-ghost use Rattle.std.specs.Prelude.{◌≡◌, ◌+◌, ◌<◌, ◌^◌};
+ghost use Rattle.std.specs.Prelude.{◌≡◌};
 ghost use Rattle.interval_ops.specs.Operators.{partner_range, in_range, edge_of, range_from, range_at, range_before};
 
-use ev_term::{Edge, Op, Span};
-
-/// The greatest tick of a span.
-const LAST_TICK: u64 = (1 << 62) - 1;
+use ev_term::{Edge, Op, Span, TIME_LIMIT};
 
 /// On which side of an operator a span stands.
 #[derive(Clone, Copy, Debug, PartialEq, Eq)]
@@ -28,7 +25,7 @@ fn range_from(edge: Edge, low: u64) -> Range
     Range {
         edge,
         low,
-        high: LAST_TICK,
+        high: TIME_LIMIT - 1,
     }
 }
 

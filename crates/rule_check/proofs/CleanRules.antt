@@ -1,122 +1,78 @@
--- The faults of the variables of one statement more.
-use Rattle.std.proofs.Common.{◌≡◌, ℕ, zero, suc, ◌+◌, ◌<◌, ◌≤◌, true, Some, List, [], ◌∷◌, ◌++◌, length, get_or, take, drop, map, refl, ap, sym, ◌∙◌, arith, append_assoc, append-nil, length-append, length-take, leb-true, ◌⊎◌, inl, inr}
+-- One rule more, in loops over rules.
+use Rattle.std.proofs.Common.{Bor, ◌≡◌, ℕ, ◌+◌, ◌<◌, ◌^◌, true, Some, List, [], ◌∷◌, ◌++◌, length, get_or, take, drop, ap, sym, ◌∙◌, arith, append_assoc, append-nil, length-append, length-take, ◌⊎◌, inl, inr}
 use Rattle.std.specs.List.{list_all}
 use Rattle.std.proofs.lemmas.Bool.{and_parts}
 use Rattle.std.proofs.lemmas.List.{take_more, take-append-drop, map-append, length-map}
-use Rattle.ev_term.specs.declared.atoms.NameArity.{NameArity}
-use Rattle.rule_ast.specs.declared.statements.Statement.{Statement}
 use Rattle.rule_ast.specs.declared.statements.Rule.{Rule}
-use Rattle.rule_ast.specs.declared.statements.Statement.TheVariants as made
-use Rattle.rule_ast.specs.Trees.{PlainRule, PlainStatement, Clause, Show}
-use Rattle.rule_ast.specs.Plain.{plain_statement, plain_rule}
-use Rattle.rule_ast.specs.Shaped.{IsShaped, is_shaped_statement, is_shaped_rule}
-use Rattle.rule_check.specs.Sound.{rules_of}
+use Rattle.rule_ast.specs.Trees.{PlainRule}
+use Rattle.rule_ast.specs.Plain.{plain_rule}
+use Rattle.rule_ast.specs.Shaped.{is_shaped_rule}
 use Rattle.rule_check.specs.Offenders.{first}
 use Rattle.rule_check.specs.Faults.{rule_faults, variable_faults}
+use Rattle.rule_check.specs.Gathered.{rules_at, AreShaped}
 use Rattle.rule_check.specs.declared.faults.CheckFault.{CheckFault}
 use Rattle.rule_check.specs.declared.faults.CheckFault.TheVariants.{Memory}
-use Rattle.rule_check.proofs.Safety.{none_append}
+use Rattle.rule_check.proofs.Safety.{append_none, none_append}
 
-pub rules_of-append : (xs ys : List PlainStatement) → rules_of (xs ++ ys) ≡ rules_of xs ++ rules_of ys
-rules_of-append [] ys = refl
-rules_of-append (Clause r ∷ xs) ys = ap (λ l. r ∷ l) (rules_of-append xs ys)
-rules_of-append (Show names ∷ xs) ys = rules_of-append xs ys
+shaped_among : (before rest : List PlainRule) (r : PlainRule) → list_all is_shaped_rule (before ++ r ∷ rest) ≡ true → is_shaped_rule r ≡ true
+shaped_among [] rest r e = (and_parts (is_shaped_rule r) (list_all is_shaped_rule rest) e).0
+shaped_among (q ∷ before) rest r e = shaped_among before rest r (and_parts (is_shaped_rule q) (list_all is_shaped_rule (before ++ r ∷ rest)) e).1
 
-pub variable_faults-append : (k : ℕ) (xs ys : List PlainRule) → variable_faults k (xs ++ ys) ≡ variable_faults k xs ++ variable_faults (k + length xs) ys
-variable_faults-append k [] ys = ap (λ n. variable_faults n ys) (omega arith)
-variable_faults-append k (r ∷ xs) ys =
-    ap (λ l. rule_faults k r ++ l) (variable_faults-append (k + 1) xs ys)
-    ∙ sym (append_assoc (rule_faults k r) (variable_faults (k + 1) xs) (variable_faults (k + 1 + length xs) ys))
-    ∙ ap (λ n. (rule_faults k r ++ variable_faults (k + 1) xs) ++ variable_faults n ys) (omega arith)
+module _ (xs : List (Bor Rule)) (i : ℕ) (x : Bor Rule) (h : i < length xs) (is : x ≡ get_or xs i x) where
+  pub one_more : rules_at (take (i + 1) xs) ≡ rules_at (take i xs) ++ plain_rule x.now ∷ []
+  one_more = ap rules_at (take_more xs i x h) ∙ ap (λ y. rules_at (take i xs ++ y ∷ [])) (sym is) ∙ map-append (λ r. plain_rule r.now) (take i xs) (x ∷ [])
 
--- the rules of the first statements
-abbrev pub rules_in : List Statement → List PlainRule
-rules_in statements = rules_of (map plain_statement statements)
+  -- all rules, round one of them
+  pub rule_among : rules_at xs ≡ rules_at (take i xs) ++ plain_rule x.now ∷ rules_at (drop (i + 1) xs)
+  rule_among =
+      ap rules_at (sym (take-append-drop (i + 1) xs)) ∙ map-append (λ r. plain_rule r.now) (take (i + 1) xs) (drop (i + 1) xs)
+      ∙ ap (λ l. l ++ rules_at (drop (i + 1) xs)) one_more ∙ append_assoc (rules_at (take i xs)) (plain_rule x.now ∷ []) (rules_at (drop (i + 1) xs))
 
-rules_in-append : (xs ys : List Statement) → rules_in (xs ++ ys) ≡ rules_in xs ++ rules_in ys
-rules_in-append xs ys = ap rules_of (map-append plain_statement xs ys) ∙ rules_of-append (map plain_statement xs) (map plain_statement ys)
+  pub rule_shaped : AreShaped (rules_at xs) → is_shaped_rule (plain_rule x.now) ≡ true
+  rule_shaped s = shaped_among (rules_at (take i xs)) (rules_at (drop (i + 1) xs)) (plain_rule x.now) (ap (list_all is_shaped_rule) (sym rule_among) ∙ s.each)
 
-module _ (xs : List Statement) (i : ℕ) (x : Statement) (h : i < length xs) (is : x ≡ get_or xs i x) where
-  pub one_more : rules_in (take (i + 1) xs) ≡ rules_in (take i xs) ++ rules_in (x ∷ [])
-  one_more = ap rules_in (take_more xs i x h) ∙ ap (λ y. rules_in (take i xs ++ y ∷ [])) (sym is) ∙ rules_in-append (take i xs) (x ∷ [])
+-- the number of the next rule is one that a number holds
+pub few_before : (xs : List (Bor Rule)) (i : ℕ) → i < length xs → AreShaped (rules_at xs) → length (rules_at (take i xs)) + 1 < 2 ^ 32
+few_before xs i h s =
+    let few = s.few in
+    omega (arith, h, few, length-map xs (λ r. plain_rule r.now), length-map (take i xs) (λ r. plain_rule r.now), length-take i xs)
 
-  all_parts : rules_in xs ≡ (rules_in (take i xs) ++ rules_in (x ∷ [])) ++ rules_in (drop (i + 1) xs)
-  all_parts = ap rules_in (sym (take-append-drop (i + 1) xs)) ∙ rules_in-append (take (i + 1) xs) (drop (i + 1) xs) ∙ ap (λ l. l ++ rules_in (drop (i + 1) xs)) one_more
+-- ---- faults of variables
 
-  pub a_rule : (r : Rule) → x ≡ made.Rule r → rules_in (take (i + 1) xs) ≡ rules_in (take i xs) ++ plain_rule r ∷ []
-  a_rule r e = one_more ∙ ap (λ y. rules_in (take i xs) ++ rules_in (y ∷ [])) e
+pub first_front : {A : Type 0} (xs ys : List A) (x : A) → first xs ≡ Some x → first (xs ++ ys) ≡ Some x
+first_front [] ys x e = cc
+first_front (y ∷ xs) ys x e = e
 
-  pub no_rule : (names : List NameArity) → plain_statement x ≡ Show names → rules_in (take (i + 1) xs) ≡ rules_in (take i xs)
-  no_rule names e = one_more ∙ ap (λ y. rules_in (take i xs) ++ rules_of (y ∷ [])) e ∙ append-nil (rules_in (take i xs))
+-- the first fault of a rule is that of all, where those before it have none
+fault_among : (k : ℕ) (before rest : List PlainRule) (r : PlainRule) (f : CheckFault) → variable_faults k before ≡ []
+    → first (rule_faults (k + length before) r) ≡ Some f → first (variable_faults k (before ++ r ∷ rest)) ≡ Some f
+fault_among k [] rest r f none some = first_front (rule_faults k r) (variable_faults (k + 1) rest) f (ap (λ n. first (rule_faults n r)) (omega arith) ∙ some)
+fault_among k (q ∷ before) rest r f none some =
+    let parts = append_none (rule_faults k q) (variable_faults (k + 1) before) none in
+    ap (λ l. first (l ++ variable_faults (k + 1) (before ++ r ∷ rest))) parts.0
+    ∙ fault_among (k + 1) before rest r f parts.1 (ap (λ n. first (rule_faults n r)) (omega arith) ∙ some)
 
-  -- the faults of the first statements and of a rule behind them
-  pub with_rule : (r : Rule) → x ≡ made.Rule r → variable_faults 1 (rules_in (take (i + 1) xs)) ≡ variable_faults 1 (rules_in (take i xs)) ++ rule_faults (length (rules_in (take i xs)) + 1) (plain_rule r)
-  with_rule r e =
-      ap (variable_faults 1) (a_rule r e) ∙ variable_faults-append 1 (rules_in (take i xs)) (plain_rule r ∷ [])
-      ∙ ap (λ n. variable_faults 1 (rules_in (take i xs)) ++ (rule_faults n (plain_rule r) ++ [])) (omega arith)
-      ∙ ap (λ l. variable_faults 1 (rules_in (take i xs)) ++ l) (append-nil (rule_faults (length (rules_in (take i xs)) + 1) (plain_rule r)))
+none_more : (k : ℕ) (before : List PlainRule) (r : PlainRule) → variable_faults k before ≡ [] → rule_faults (k + length before) r ≡ [] → variable_faults k (before ++ r ∷ []) ≡ []
+none_more k [] r none e = append-nil (rule_faults k r) ∙ ap (λ n. rule_faults n r) (omega arith) ∙ e
+none_more k (q ∷ before) r none e =
+    let parts = append_none (rule_faults k q) (variable_faults (k + 1) before) none in
+    none_append (rule_faults k q) (variable_faults (k + 1) (before ++ r ∷ [])) parts.0
+    (none_more (k + 1) before r parts.1 (ap (λ n. rule_faults n r) (omega arith) ∙ e))
 
-  -- the first fault of a rule is that of all, where those before it have none
-  pub fault_at : (r : Rule) (f : CheckFault) (number : ℕ) → x ≡ made.Rule r → variable_faults 1 (rules_in (take i xs)) ≡ [] → number ≡ length (rules_in (take i xs)) + 1
-      → first (rule_faults number (plain_rule r)) ≡ Some f → first (variable_faults 1 (rules_in xs)) ≡ Some f
-  fault_at r f number e none is_number some =
-      ap (λ l. first (variable_faults 1 l)) (ap rules_in (sym (take-append-drop (i + 1) xs)) ∙ rules_in-append (take (i + 1) xs) (drop (i + 1) xs))
-      ∙ ap first (variable_faults-append 1 (rules_in (take (i + 1) xs)) (rules_in (drop (i + 1) xs)))
-      ∙ ap (λ l. first (l ++ variable_faults (1 + length (rules_in (take (i + 1) xs))) (rules_in (drop (i + 1) xs))))
-      (with_rule r e ∙ ap (λ l. l ++ rule_faults (length (rules_in (take i xs)) + 1) (plain_rule r)) none)
-      ∙ front (rule_faults (length (rules_in (take i xs)) + 1) (plain_rule r)) _ (ap (λ n. first (rule_faults n (plain_rule r))) (sym is_number) ∙ some)
-    where
-      front : (cs bs : List CheckFault) → first cs ≡ Some f → first (cs ++ bs) ≡ Some f
-      front [] bs g = cc
-      front (a ∷ cs) bs g = g
-
-shaped_at : (xs : List Statement) (i : ℕ) (x : Statement) → i < length xs → x ≡ get_or xs i x → list_all is_shaped_statement (map plain_statement xs) ≡ true → is_shaped_statement (plain_statement x) ≡ true
-shaped_at [] i x h is e = absurd (omega (arith, h))
-shaped_at (y ∷ xs) zero x h is e = ap (λ z. is_shaped_statement (plain_statement z)) is ∙ (and_parts (is_shaped_statement (plain_statement y)) (list_all is_shaped_statement (map plain_statement xs)) e).0
-shaped_at (y ∷ xs) (suc i) x h is e = shaped_at xs i x (omega (arith, h)) is (and_parts (is_shaped_statement (plain_statement y)) (list_all is_shaped_statement (map plain_statement xs)) e).1
-
-pub rule_shaped : (xs : List Statement) (i : ℕ) (x : Statement) (r : Rule) → i < length xs → x ≡ get_or xs i x → x ≡ made.Rule r → IsShaped (map plain_statement xs) → is_shaped_rule (plain_rule r) ≡ true
-rule_shaped xs i x r h is e s = ap (λ y. is_shaped_statement (plain_statement y)) (sym e) ∙ shaped_at xs i x h is s.each
-
--- there are no more rules than statements
-pub few_rules : (xs : List PlainStatement) → length (rules_of xs) ≤ length xs
-few_rules [] = omega arith
-few_rules (Clause r ∷ xs) = let h = few_rules xs in omega (arith, h)
-few_rules (Show names ∷ xs) = let h = few_rules xs in omega (arith, h)
-
-pub few_before : (xs : List Statement) (i : ℕ) → IsShaped (map plain_statement xs) → length (rules_in (take i xs)) ≤ 1024
-few_before xs i s =
-    let few = few_rules (map plain_statement (take i xs)) in
-    let all : length (map plain_statement xs) ≤ 1024 = leb-true (length (map plain_statement xs)) 1024 s.few in
-    omega (arith, few, all, length-map (take i xs) plain_statement, length-map xs plain_statement, length-take i xs)
-
-pub verdict_at : (xs : List Statement) (i : ℕ) (x : Statement) (r : Rule) (f : CheckFault) (number : ℕ) → i < length xs → x ≡ get_or xs i x → x ≡ made.Rule r
-    → variable_faults 1 (rules_in (take i xs)) ≡ [] → number ≡ length (rules_in (take i xs)) + 1
-    → (f ≡ Memory) ⊎ (first (rule_faults number (plain_rule r)) ≡ Some f) → (f ≡ Memory) ⊎ (first (variable_faults 1 (rules_in xs)) ≡ Some f)
-verdict_at xs i x r f number h is e none is_number (inl m) = inl m
-verdict_at xs i x r f number h is e none is_number (inr some) = inr (fault_at xs i x h is r f number e none is_number some)
-
--- what holds behind one statement more
+-- what holds behind these rules
 pub record Clean (rules : List PlainRule) (number : ℕ) : Type 0 where
   pub counted : number ≡ length rules
   pub clean : variable_faults 1 rules ≡ []
 
-pub clean_rule : (xs : List Statement) (i : ℕ) (x : Statement) (r : Rule) (number : ℕ) → i < length xs → x ≡ get_or xs i x → x ≡ made.Rule r
-    → Clean (rules_in (take i xs)) number → rule_faults (number + 1) (plain_rule r) ≡ [] → Clean (rules_in (take (i + 1) xs)) (number + 1)
-clean_rule xs i x r number h is e old none = record {
-  counted = ap (λ n. n + 1) old.counted ∙ sym (length-append (rules_in (take i xs)) (plain_rule r ∷ [])) ∙ ap length (sym (a_rule xs i x h is r e));
-  clean = with_rule xs i x h is r e ∙ none_append (variable_faults 1 (rules_in (take i xs))) _ old.clean (ap (λ n. rule_faults (n + 1) (plain_rule r)) (sym old.counted) ∙ none);
+pub clean_more : (before all : List PlainRule) (r : PlainRule) (number : ℕ) → all ≡ before ++ r ∷ [] → Clean before number → rule_faults (number + 1) r ≡ [] → Clean all (number + 1)
+clean_more before all r number is old none = record {
+  counted = ap (λ n. n + 1) old.counted ∙ sym (length-append before (r ∷ [])) ∙ ap length (sym is);
+  clean = ap (variable_faults 1) is ∙ none_more 1 before r old.clean (ap (λ n. rule_faults n r) (let c = old.counted in omega (arith, c)) ∙ none);
 }
 
-pub clean_show : (xs : List Statement) (i : ℕ) (x : Statement) (names : List NameArity) (number : ℕ) → i < length xs → x ≡ get_or xs i x → plain_statement x ≡ Show names
-    → Clean (rules_in (take i xs)) number → Clean (rules_in (take (i + 1) xs)) number
-clean_show xs i x names number h is e old = record {
-  counted = old.counted ∙ ap length (sym (no_rule xs i x h is names e));
-  clean = ap (variable_faults 1) (no_rule xs i x h is names e) ∙ old.clean;
-}
-
--- all rules, round one of them
-pub rule_among : (xs : List Statement) (i : ℕ) (x : Statement) (r : Rule) → i < length xs → x ≡ get_or xs i x → x ≡ made.Rule r → rules_in xs ≡ rules_in (take i xs) ++ plain_rule r ∷ rules_in (drop (i + 1) xs)
-rule_among xs i x r h is e =
-    ap rules_in (sym (take-append-drop (i + 1) xs)) ∙ rules_in-append (take (i + 1) xs) (drop (i + 1) xs) ∙ ap (λ l. l ++ rules_in (drop (i + 1) xs)) (a_rule xs i x h is r e)
-    ∙ append_assoc (rules_in (take i xs)) (plain_rule r ∷ []) (rules_in (drop (i + 1) xs))
+pub verdict_at : (before rest all : List PlainRule) (r : PlainRule) (number : ℕ) (f : CheckFault) → all ≡ before ++ r ∷ rest → Clean before number
+    → (f ≡ Memory) ⊎ (first (rule_faults (number + 1) r) ≡ Some f) → (f ≡ Memory) ⊎ (first (variable_faults 1 all) ≡ Some f)
+verdict_at before rest all r number f is old (inl m) = inl m
+verdict_at before rest all r number f is old (inr some) = inr (
+    ap (λ l. first (variable_faults 1 l)) is
+    ∙ fault_among 1 before rest r f old.clean (ap (λ n. first (rule_faults n r)) (let c = old.counted in omega (arith, c)) ∙ some))

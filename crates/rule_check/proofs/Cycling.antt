@@ -4,30 +4,21 @@ use Rattle.std.specs.List.{cons_option}
 use Rattle.std.specs.Option.{option_map}
 use Rattle.std.specs.Bool.{Decides}
 use Rattle.std.specs.Ordering.{is_eq}
-use Rattle.std.proofs.lemmas.Bool.{true≢false}
+use Rattle.std.proofs.Math.Logic.{⊎_elim}
+use Rattle.std.proofs.lemmas.Bool.{true≢false, or_left, or_right, or_cases}
 use Rattle.std.proofs.lemmas.List.{length-map}
 use Rattle.ordered_lists.specs.Canon.{has, has-append}
 use Rattle.ev_term.specs.declared.atoms.NameArity.{NameArity}
 use Rattle.rule_ast.specs.Trees.{PlainRule}
 use Rattle.rule_ast.specs.Vars.{is_in}
-use Rattle.ev_term.specs.EventOrder.{name_cmp, exact_names}
+use Rattle.ev_term.specs.EventOrder.{name_cmp, exact_names, same_names}
 use Rattle.rule_check.specs.Names.{head_name, head_names, body_names}
 use Rattle.rule_check.specs.Graphs.{Reaches, stop, step, HasCycle, greatest, leads, IsRankList}
-use Rattle.rule_check.specs.Components.{AreComponents}
-use Rattle.rule_check.specs.Cycles.{below, stands_on, IsOnCycle, AreAcyclic, IsFirstCycle, IsRanking, place, places, graph_of, rank_by}
-use Rattle.rule_check.proofs.Placing.{itself, same_name, no_place}
-use Rattle.rule_check.proofs.NameGraph.{place_below, place_name, place_some, in_places, places_in, targets_of, lead_from, lead_to, graph_length, places_inside}
-
-or_cases : (a b : Bool) {P : Type 0} → (a ≡ true → P) → (b ≡ true → P) → (a || b) ≡ true → P
-or_cases true b f g e = f refl
-or_cases false b f g e = g e
-
-or_left : (a b : Bool) → a ≡ true → (a || b) ≡ true
-or_left a b e = ap (λ c. c || b) e
-
-or_right : (a b : Bool) → b ≡ true → (a || b) ≡ true
-or_right true b e = refl
-or_right false b e = e
+use Rattle.rule_check.specs.Marking.{AnyReaches}
+use Rattle.rule_check.specs.Numbers.{place, places, rank_by}
+use Rattle.rule_check.specs.Cycles.{below, stands_on, IsOnCycle, AreAcyclic, IsFirstCycle, IsRanking, graph_of}
+use Rattle.rule_check.proofs.Placing.{itself, no_place, place_below, place_name, place_some, in_places, places_in}
+use Rattle.rule_check.proofs.NameGraph.{targets_of, lead_from, lead_to}
 
 -- the names below a name, rule by rule
 below_cases : (r : PlainRule) (rs : List PlainRule) (n m : NameArity) {P : Type 0} → (is_eq (name_cmp n (head_name r)) ≡ true → has name_cmp m (body_names r.body) ≡ true → P) → (has name_cmp m (below rs n) ≡ true → P)
@@ -35,7 +26,7 @@ below_cases : (r : PlainRule) (rs : List PlainRule) (n m : NameArity) {P : Type 
 below_cases r rs n m {P = P} f g e = at (is_eq (name_cmp n (head_name r))) refl (sym (has-append exact_names m (cond (is_eq (name_cmp n (head_name r))) (body_names r.body) []) (below rs n)) ∙ e)
   where
     at : (b : Bool) → is_eq (name_cmp n (head_name r)) ≡ b → (has name_cmp m (cond b (body_names r.body) []) || has name_cmp m (below rs n)) ≡ true → P
-    at true is h = or_cases (has name_cmp m (body_names r.body)) (has name_cmp m (below rs n)) (f is) g h
+    at true is h = ⊎_elim (f is) g (or_cases (has name_cmp m (body_names r.body)) (has name_cmp m (below rs n)) h)
     at false is h = g h
 
 below_here : (r : PlainRule) (rs : List PlainRule) (m : NameArity) → has name_cmp m (body_names r.body) ≡ true → has name_cmp m (below (r ∷ rs) (head_name r)) ≡ true
@@ -48,11 +39,6 @@ below_there : (r : PlainRule) (rs : List PlainRule) (n m : NameArity) → has na
 below_there r rs n m e =
     has-append exact_names m (cond (is_eq (name_cmp n (head_name r))) (body_names r.body) []) (below rs n)
     ∙ or_right (has name_cmp m (cond (is_eq (name_cmp n (head_name r))) (body_names r.body) [])) (has name_cmp m (below rs n)) e
-
--- the names of a rule's body are below its head's
-rule_below : (before rest : List PlainRule) (r : PlainRule) (m : NameArity) → has name_cmp m (body_names r.body) ≡ true → has name_cmp m (below (before ++ r ∷ rest) (head_name r)) ≡ true
-rule_below [] rest r m e = below_here r rest m e
-rule_below (q ∷ before) rest r m e = below_there q (before ++ r ∷ rest) (head_name r) m (rule_below before rest r m e)
 
 -- what stands on a name heads a rule
 stands_head : (rs : List PlainRule) (n m : NameArity) → has name_cmp m (below rs n) ≡ true → has name_cmp n (head_names rs) ≡ true
@@ -84,7 +70,7 @@ module _ (heads : List NameArity) (rules : List PlainRule) where
   no_rule : (rs : List PlainRule) (n m : NameArity) → AreAcyclic rules rs → has name_cmp m (below rs n) ≡ true → Reaches (stands_on rules) m n → ⊥
   no_rule [] n m a e t = true≢false (sym e)
   no_rule (r ∷ rs) n m a e t =
-      below_cases r rs n m (λ is h. a.0 (m, h, subst (λ y. Reaches (stands_on rules) m y) (same_name n (head_name r) is) t)) (λ h. no_rule rs n m a.1 h t) e
+      below_cases r rs n m (λ is h. a.0 (m, h, subst (λ y. Reaches (stands_on rules) m y) (same_names n (head_name r) is) t)) (λ h. no_rule rs n m a.1 h t) e
 
   -- a node that returns to itself gives a rule on a cycle
   pub some_cycle : HasCycle graph → AreAcyclic rules rules → ⊥
@@ -148,12 +134,13 @@ module _ (heads : List NameArity) (ranks : List ℕ) where
 -- ---- where names have ranks, no rule is on a cycle
 
 module _ (rules : List PlainRule) (rank : NameArity → ℕ) (r : IsRanking rules rank) where
-  at_most : (names : List NameArity) (m : NameArity) → has name_cmp m names ≡ true → rank m ≤ greatest (map rank names)
+  pub at_most : (names : List NameArity) (m : NameArity) → has name_cmp m names ≡ true → rank m ≤ greatest (map rank names)
   at_most [] m e = absurd (true≢false (sym e))
   at_most (n ∷ names) m e =
-      or_cases (is_eq (name_cmp m n)) (has name_cmp m names)
-      (λ is. let same = ap rank (same_name m n is) in omega (arith, same))
-      (λ h. let more = at_most names m h in omega (arith, more)) e
+      ⊎_elim
+      (λ is. let same = ap rank (same_names m n is) in omega (arith, same))
+      (λ h. let more = at_most names m h in omega (arith, more))
+      (or_cases (is_eq (name_cmp m n)) (has name_cmp m names) e)
 
   lower : (n m : NameArity) → stands_on rules n m ≡ true → rank m < rank n
   lower n m l =
@@ -177,7 +164,7 @@ module _ (rules : List PlainRule) (rank : NameArity → ℕ) (r : IsRanking rule
 
 -- ---- the first rule on a cycle
 
-pub acyclic_more : (rules xs : List PlainRule) (r : PlainRule) → AreAcyclic rules xs → (IsOnCycle rules r → ⊥) → AreAcyclic rules (xs ++ r ∷ [])
+acyclic_more : (rules xs : List PlainRule) (r : PlainRule) → AreAcyclic rules xs → (IsOnCycle rules r → ⊥) → AreAcyclic rules (xs ++ r ∷ [])
 acyclic_more rules [] r a h = (h, tt)
 acyclic_more rules (x ∷ xs) r a h = (a.0, acyclic_more rules xs r a.1 h)
 
@@ -208,31 +195,14 @@ module _ (heads : List NameArity) (rules : List PlainRule) (are : (n : NameArity
       let d = head_name r in
       (m, h, subst (λ y. Reaches (stands_on rules) y (head_name r)) (place_name heads m i p d) (subst (λ y. Reaches (stands_on rules) (get_or heads i d) y) (place_name heads (head_name r) node at d) (name_reaches heads rules d i node t)))
 
-  cycle_missed : ((i : ℕ) → is_in i (places heads (body_names r.body)) ≡ true → Reaches (leads (graph_of heads rules)) i node → ⊥) → IsOnCycle rules r → ⊥
-  cycle_missed none (m, h, t) =
+  reach_found : IsOnCycle rules r → AnyReaches (graph_of heads rules) (places heads (body_names r.body)) node
+  reach_found (m, h, t) =
       let (i, p, s) = node_reaches heads rules are node m (head_name r) at t in
-      none i (places_in heads (body_names r.body) m i h p) s
+      (i, places_in heads (body_names r.body) m i h p, s)
 
-  -- the head's node leads to those of the body
-  body_leads : (before rest : List PlainRule) → rules ≡ before ++ r ∷ rest → (i : ℕ) → is_in i (places heads (body_names r.body)) ≡ true → leads (graph_of heads rules) node i ≡ true
-  body_leads before rest is i e =
-      let (m, h, p) = in_places heads (body_names r.body) i e in
-      lead_to heads rules node i (head_name r) m at (ap (λ rs. has name_cmp m (below rs (head_name r))) is ∙ rule_below before rest r m h) p
-
-  -- a rule is on a cycle where a name of its body is in the component of the head's
-  module _ (names : List ℕ) (c : AreComponents (graph_of heads rules) names) where
-    node_inside : node < length (graph_of heads rules)
-    node_inside = let a = place_below heads (head_name r) node at in let b = graph_length heads rules in omega (arith, a, b)
-
-    body_inside : (i : ℕ) → is_in i (places heads (body_names r.body)) ≡ true → i < length (graph_of heads rules)
-    body_inside i e = places_inside heads (body_names r.body) (length (graph_of heads rules)) (graph_length heads rules) i e
-
-    pub joined_found : (i : ℕ) → is_in i (places heads (body_names r.body)) ≡ true → get_or names i 0 ≡ get_or names node 0 → IsOnCycle rules r
-    joined_found i e same = cycle_found i e (c.joined i node (body_inside i e) node_inside same)
-
-    pub joined_missed : (before rest : List PlainRule) → rules ≡ before ++ r ∷ rest → ((i : ℕ) → is_in i (places heads (body_names r.body)) ≡ true → get_or names i 0 ≡ get_or names node 0 → ⊥) → IsOnCycle rules r → ⊥
-    joined_missed before rest is none = cycle_missed (λ i e t. none i e (c.apart i node (body_inside i e) node_inside t (step node i i (body_leads before rest is i e) (stop i))))
-
-pub decided : (b : Bool) {P : Type 0} → (b ≡ true → P) → (b ≡ false → P → ⊥) → Decides b P
-decided true f g = (f, λ p. refl)
-decided false f g = (f, λ p. absurd (g refl p))
+  -- a rule is on a cycle where a name of its body reaches the head's
+  pub on_cycle : (b : Bool) (nodes : List ℕ) (rows : List (List ℕ)) → nodes ≡ places heads (body_names r.body) → rows ≡ graph_of heads rules → Decides b (AnyReaches rows nodes node) → Decides b (IsOnCycle rules r)
+  on_cycle b nodes rows n g d = (
+    (λ e. let (i, h, t) = d.0 e in cycle_found i (ap (is_in i) (sym n) ∙ h) (subst (λ k. Reaches (leads k) i node) g t)),
+    (λ c. let (i, h, t) = reach_found c in d.1 (i, ap (is_in i) n ∙ h, subst (λ k. Reaches (leads k) i node) (sym g) t)),
+  )

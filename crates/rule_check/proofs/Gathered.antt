@@ -1,21 +1,26 @@
--- The names of one statement more.
-use Rattle.std.proofs.Common.{◌≡◌, ℕ, ◌+◌, ◌<◌, ◌≤◌, true, false, cond, ◌||◌, Some, List, [], ◌∷◌, ◌++◌, length, get_or, take, drop, map, refl, ap, sym, ◌∙◌, arith, append_assoc, append-nil, length-take-le, leb-true, nat_le, ◌&&◌}
+-- The rules and the names of one statement more.
+use Rattle.std.proofs.Common.{Bor, ◌≡◌, ℕ, ◌+◌, ◌<◌, ◌≤◌, true, false, cond, ◌||◌, Some, List, [], ◌∷◌, ◌++◌, length, get_or, take, drop, map, refl, ap, sym, subst, ◌∙◌, arith, append_assoc, append-nil, length-take-le, leb-true, ◌&&◌}
+use Rattle.std.specs.List.{list_all}
 use Rattle.std.proofs.lemmas.Bool.{and_parts}
 use Rattle.std.proofs.lemmas.List.{take_more, take-append-drop, map-append}
 use Rattle.ordered_lists.specs.Canon.{has}
 use Rattle.ev_term.specs.declared.atoms.NameArity.{NameArity}
+use Rattle.ev_term.specs.EventOrder.{name_cmp}
 use Rattle.rule_ast.specs.declared.statements.Statement.{Statement}
 use Rattle.rule_ast.specs.declared.statements.Rule.{Rule}
-use Rattle.rule_ast.specs.declared.statements.Statement.TheVariants as made
 use Rattle.rule_ast.specs.Trees.{PlainRule, PlainStatement, Clause, Show}
 use Rattle.rule_ast.specs.Plain.{plain_statement, plain_rule}
-use Rattle.std.specs.List.{list_all}
-use Rattle.rule_ast.specs.Shaped.{is_shaped_rule, is_shaped_head, is_shaped_pattern, is_head_argument, names_differ}
-use Rattle.ev_term.specs.EventOrder.{name_cmp}
+use Rattle.rule_ast.specs.Shaped.{IsShaped, is_shaped_statement, is_shaped_rule}
 use Rattle.rule_ast.specs.Shown.{shown_names}
-use Rattle.rule_check.specs.Names.{head_name, head_names, has_show, unknown_shows}
+use Rattle.rule_check.specs.Gathered.{rules_at, AreShaped}
+use Rattle.rule_check.specs.Names.{has_show, unknown_shows}
 use Rattle.rule_check.specs.Offenders.{first}
-use Rattle.rule_check.proofs.CleanRules.{rules_in, a_rule, no_rule}
+use Rattle.rule_check.specs.Sound.{rules_of}
+
+rules_of-append : (xs ys : List PlainStatement) → rules_of (xs ++ ys) ≡ rules_of xs ++ rules_of ys
+rules_of-append [] ys = refl
+rules_of-append (Clause r ∷ xs) ys = ap (λ l. r ∷ l) (rules_of-append xs ys)
+rules_of-append (Show names ∷ xs) ys = rules_of-append xs ys
 
 shown_names-append : (xs ys : List PlainStatement) → shown_names (xs ++ ys) ≡ shown_names xs ++ shown_names ys
 shown_names-append [] ys = refl
@@ -34,12 +39,20 @@ module _ (xs : List Statement) (i : ℕ) (x : Statement) (h : i < length xs) (is
   plain_all : map plain_statement xs ≡ (map plain_statement (take i xs) ++ plain_statement x ∷ []) ++ map plain_statement (drop (i + 1) xs)
   plain_all = ap (map plain_statement) (sym (take-append-drop (i + 1) xs)) ∙ map-append plain_statement (take (i + 1) xs) (drop (i + 1) xs) ∙ ap (λ l. l ++ map plain_statement (drop (i + 1) xs)) plain_more
 
-  pub heads_rule : (names : List NameArity) (r : Rule) (q : NameArity) → x ≡ made.Rule r → names ≡ head_names (rules_in (take i xs)) → q ≡ head_name (plain_rule r) → names ++ q ∷ [] ≡ head_names (rules_in (take (i + 1) xs))
-  heads_rule names r q e old q_is =
-      (λ j. old j ++ q_is j ∷ []) ∙ sym (map-append head_name (rules_in (take i xs)) (plain_rule r ∷ [])) ∙ ap head_names (sym (a_rule xs i x h is r e))
+  rules_more : rules_of (map plain_statement (take (i + 1) xs)) ≡ rules_of (map plain_statement (take i xs)) ++ rules_of (plain_statement x ∷ [])
+  rules_more = ap rules_of plain_more ∙ rules_of-append (map plain_statement (take i xs)) (plain_statement x ∷ [])
 
-  pub heads_show : (names more : List NameArity) → plain_statement x ≡ Show more → names ≡ head_names (rules_in (take i xs)) → names ≡ head_names (rules_in (take (i + 1) xs))
-  heads_show names more e old = old ∙ ap head_names (sym (no_rule xs i x h is more e))
+  pub rules_rule : (rules : List (Bor Rule)) (r : Bor Rule) → plain_statement x ≡ Clause (plain_rule r.now) → rules_at rules ≡ rules_of (map plain_statement (take i xs))
+      → rules_at (rules ++ r ∷ []) ≡ rules_of (map plain_statement (take (i + 1) xs))
+  rules_rule rules r e old =
+      map-append (λ r. plain_rule r.now) rules (r ∷ []) ∙ ap (λ l. l ++ plain_rule r.now ∷ []) old
+      ∙ ap (λ y. rules_of (map plain_statement (take i xs)) ++ rules_of (y ∷ [])) (sym e) ∙ sym rules_more
+
+  pub rules_show : (rules : List (Bor Rule)) (more : List NameArity) → plain_statement x ≡ Show more → rules_at rules ≡ rules_of (map plain_statement (take i xs))
+      → rules_at rules ≡ rules_of (map plain_statement (take (i + 1) xs))
+  rules_show rules more e old =
+      old ∙ sym (append-nil (rules_of (map plain_statement (take i xs))))
+      ∙ ap (λ y. rules_of (map plain_statement (take i xs)) ++ rules_of (y ∷ [])) (sym e) ∙ sym rules_more
 
   pub shown_rule : (names : List NameArity) (r : PlainRule) → plain_statement x ≡ Clause r → names ≡ shown_names (map plain_statement (take i xs)) → names ≡ shown_names (map plain_statement (take (i + 1) xs))
   shown_rule names r e old =
@@ -89,9 +102,27 @@ module _ (heads names : List NameArity) (i : ℕ) (x : NameArity) (h : i < lengt
       ∙ ap (λ l. first (l ++ unknown_shows (1 + length (take (i + 1) names)) heads (drop (i + 1) names))) (here ∙ ap (λ b. cond b [] ((i + 1) ∷ [])) e)
       ∙ ap (λ k. Some (k + 1)) (sym n))
 
--- a head has at most sixteen arguments
-pub head_short : (r : PlainRule) → is_shaped_rule r ≡ true → length r.head.args ≤ 16
-head_short r e =
-    let parts = and_parts (nat_le (length r.vars) 64 && names_differ r.vars) (is_shaped_head (length r.vars) r.head && is_shaped_pattern (length r.vars) r.body) e in
-    let both = and_parts (is_shaped_head (length r.vars) r.head) (is_shaped_pattern (length r.vars) r.body) parts.1 in
-    leb-true (length r.head.args) 16 (and_parts (nat_le (length r.head.args) 16) (list_all (is_head_argument (length r.vars)) r.head.args) both.0).0
+-- ---- rules of shaped files
+
+few_rules : (xs : List PlainStatement) → length (rules_of xs) ≤ length xs
+few_rules [] = omega arith
+few_rules (Clause r ∷ xs) = let h = few_rules xs in omega (arith, h)
+few_rules (Show names ∷ xs) = let h = few_rules xs in omega (arith, h)
+
+each_shaped : (xs : List PlainStatement) → list_all is_shaped_statement xs ≡ true → list_all is_shaped_rule (rules_of xs) ≡ true
+each_shaped [] e = refl
+each_shaped (Clause r ∷ xs) e = let parts = and_parts (is_shaped_rule r) (list_all is_shaped_statement xs) e in ap (λ b. b && list_all is_shaped_rule (rules_of xs)) parts.0 ∙ each_shaped xs parts.1
+each_shaped (Show names ∷ xs) e = each_shaped xs (and_parts (is_shaped_statement (Show names)) (list_all is_shaped_statement xs) e).1
+
+shaped_rules : (xs : List PlainStatement) → IsShaped xs → AreShaped (rules_of xs)
+shaped_rules xs s = record {
+  few = let few = few_rules xs in let all : length xs ≤ 1024 = leb-true (length xs) 1024 s.few in omega (arith, few, all);
+  each = each_shaped xs s.each;
+}
+
+-- the rules that are gathered from a file are its rules
+pub all_rules : (xs ys : List Statement) (rules slice : List (Bor Rule)) → slice ≡ rules → rules_at rules ≡ rules_of (map plain_statement ys) → ys ≡ xs → rules_at slice ≡ rules_of (map plain_statement xs)
+all_rules xs ys rules slice e is f = ap rules_at e ∙ is ∙ ap (λ l. rules_of (map plain_statement l)) f
+
+pub all_shaped : (xs ys : List Statement) (rules slice : List (Bor Rule)) → slice ≡ rules → rules_at rules ≡ rules_of (map plain_statement ys) → ys ≡ xs → IsShaped (map plain_statement xs) → AreShaped (rules_at slice)
+all_shaped xs ys rules slice e is f s = subst AreShaped (sym (all_rules xs ys rules slice e is f)) (shaped_rules (map plain_statement xs) s)

@@ -3,13 +3,13 @@ pub mod FirstOutside
 pub mod FirstOffender
 pub mod Named
 pub mod CleanRules
-pub mod Places
 pub mod Gathered
 pub mod Rows
 pub mod Visiting
-pub mod Walking
+pub mod Marks
 pub mod Placing
 pub mod NameGraph
 pub mod Cycling
+pub mod Numbering
 pub mod Ranking
 pub mod Verdicts

@@ -1,7 +1,7 @@
 -- The variables of shaped rules have names, and so do those that stand where they may not.
 use Rattle.std.proofs.Common.{◌≡◌, ℕ, ◌<◌, Bool, true, false, not, ◌||◌, ◌&&◌, cond, nat_lt, nat_le, Option, Some, List, [], ◌∷◌, ◌++◌, length, map, refl, ap, sym, ◌∙◌}
 use Rattle.std.specs.List.{list_all, flat_map, filter}
-use Rattle.std.proofs.lemmas.Bool.{and_parts, true≢false}
+use Rattle.std.proofs.lemmas.Bool.{and_parts, and_from, true≢false}
 use Rattle.std.proofs.lemmas.Bool.Decides.{Decides-ltb}
 use Rattle.std.proofs.lemmas.List.Folds.{list_all-append}
 use Rattle.ev_term.specs.declared.terms.Pat.{Pat, out-Pat, roll-Pat, out-roll-Pat}
@@ -19,18 +19,15 @@ use Rattle.rule_check.specs.Offenders.{first, outside, among, cond_vars, head_of
 abbrev pub Holds : (ℕ → Bool) → List ℕ → Type 0
 Holds f xs = list_all f xs ≡ true
 
-both_hold : (a b : Bool) → a ≡ true → b ≡ true → (a && b) ≡ true
-both_hold a b e f = ap (λ c. c && b) e ∙ f
-
 holds-append : (f : ℕ → Bool) (xs ys : List ℕ) → Holds f xs → Holds f ys → Holds f (xs ++ ys)
-holds-append f xs ys h g = list_all-append f xs ys ∙ both_hold (list_all f xs) (list_all f ys) h g
+holds-append f xs ys h g = list_all-append f xs ys ∙ and_from (list_all f xs) (list_all f ys) h g
 
 holds-filter : (f p : ℕ → Bool) (xs : List ℕ) → Holds f xs → Holds f (filter p xs)
 holds-filter f p [] h = refl
 holds-filter f p (x ∷ xs) h = at (p x) (and_parts (f x) (list_all f xs) h).0 (holds-filter f p xs (and_parts (f x) (list_all f xs) h).1)
   where
     at : (b : Bool) → f x ≡ true → Holds f (filter p xs) → Holds f (cond b (x ∷ filter p xs) (filter p xs))
-    at true e g = both_hold (f x) (list_all f (filter p xs)) e g
+    at true e g = and_from (f x) (list_all f (filter p xs)) e g
     at false e g = g
 
 -- what passes no test has no variables
@@ -56,7 +53,7 @@ module _ (f : ℕ → Bool) (any : Bool) where
       holds-append f (slots_of p) (flat_map (λ slots. slots) (map slots_of ps)) (h.0 parts.0) (all_args ps h.1 parts.1)
 
   layer : (a : Pat-F Pat) → Each Held (args_of a) → parts_pass f any (map-Pat Pat Bool (passes f any) a) ≡ true → Holds f (slots_step (map-Pat Pat (List ℕ) slots_of a))
-  layer (Var slot) h e = both_hold (f slot) true e refl
+  layer (Var slot) h e = and_from (f slot) true e refl
   layer Any h e = refl
   layer (Num n) h e = refl
   layer (Sym s) h e = refl
@@ -138,7 +135,7 @@ module _ (vars_count : ℕ) where
   -- ---- heads
 
   variable_named : (p : Pat) (x : Pat-F Pat) → out-Pat p ≡ x → is_variable vars_count x ≡ true → Holds named (slots_of p)
-  variable_named p (Var slot) is e = ap (list_all named) (slots_at p is) ∙ both_hold (named slot) true e refl
+  variable_named p (Var slot) is e = ap (list_all named) (slots_at p is) ∙ and_from (named slot) true e refl
   variable_named p Any is e = absurd (true≢false (sym e))
   variable_named p (Num n) is e = absurd (true≢false (sym e))
   variable_named p (Sym s) is e = absurd (true≢false (sym e))

@@ -1,32 +1,21 @@
 -- Names by number.
-use Rattle.std.proofs.Common.{◌≡◌, ℕ, zero, suc, ◌+◌, ◌<◌, ◌≤◌, Bool, true, false, cond, ◌||◌, Option, Some, None, List, [], ◌∷◌, ◌++◌, length, get_or, refl, ap, sym, subst, ◌∙◌, ◌⊎◌, inl, inr, arith, append_assoc}
+use Rattle.std.proofs.Common.{◌≡◌, ℕ, zero, suc, ◌<◌, Bool, true, false, cond, ◌||◌, ◌==◌, Option, Some, None, List, [], ◌∷◌, ◌++◌, length, get_or, refl, ap, sym, ◌∙◌, arith, append_assoc}
 use Rattle.std.specs.Option.{option_map}
 use Rattle.std.specs.List.{cons_option}
 use Rattle.std.specs.Ordering.{is_eq}
 use Rattle.std.specs.Cmp.{tied_itself}
-use Rattle.std.specs.declared.cmp.Ordering.{Ordering}
-use Rattle.std.specs.declared.cmp.Ordering.TheVariants.{Less, Equal, Greater}
-use Rattle.std.proofs.lemmas.Bool.{true≢false}
+use Rattle.std.proofs.Math.Logic.{⊎_elim}
+use Rattle.std.proofs.lemmas.Bool.{true≢false, or_left, or_right, or_cases}
+use Rattle.std.proofs.lemmas.Bool.Decides.{Decides-eqb}
 use Rattle.std.proofs.lemmas.List.Elements.{filter_map-append}
-use Rattle.ordered_lists.specs.Canon.{has, Rising, AllAbove}
+use Rattle.ordered_lists.specs.Canon.{has}
 use Rattle.ev_term.specs.declared.atoms.NameArity.{NameArity}
-use Rattle.ev_term.specs.EventOrder.{name_cmp, exact_names}
-use Rattle.rule_check.specs.Names.{IsPlace}
-use Rattle.rule_check.specs.Cycles.{place, places}
-
-clash : {P : Type 0} (b : Bool) → b ≡ false → b ≡ true → P
-clash b e f = absurd (true≢false (sym f ∙ e))
+use Rattle.ev_term.specs.EventOrder.{name_cmp, exact_names, same_names}
+use Rattle.rule_ast.specs.Vars.{is_in, is_in-none, is_in-cons}
+use Rattle.rule_check.specs.Numbers.{place, places}
 
 pub itself : (n : NameArity) → is_eq (name_cmp n n) ≡ true
 itself n = ap is_eq (tied_itself exact_names.total n)
-
-eq_from : (o : Ordering) → is_eq o ≡ true → o ≡ Equal
-eq_from Less e = absurd (true≢false (sym e))
-eq_from Equal e = refl
-eq_from Greater e = absurd (true≢false (sym e))
-
-pub same_name : (n m : NameArity) → is_eq (name_cmp n m) ≡ true → n ≡ m
-same_name n m e = exact_names.same n m (eq_from (name_cmp n m) e)
 
 -- a name that isn't among these has no number
 pub no_place : (heads : List NameArity) (n : NameArity) → has name_cmp n heads ≡ false → place heads n ≡ None
@@ -37,34 +26,61 @@ no_place (h ∷ heads) n e = at (is_eq (name_cmp n h)) e (no_place heads n)
     at true e rest = absurd (true≢false e)
     at false e rest = ap (option_map suc) (rest e)
 
-above_apart : (h : NameArity) (heads : List NameArity) (i : ℕ) (d : NameArity) → AllAbove name_cmp h heads → i < length heads → is_eq (name_cmp (get_or heads i d) h) ≡ false
-above_apart h [] i d a l = absurd (omega arith)
-above_apart h (x ∷ heads) zero d a l = at (is_eq (name_cmp x h)) refl
+pub place_below : (heads : List NameArity) (m : NameArity) (j : ℕ) → place heads m ≡ Some j → j < length heads
+place_below [] m j e = cc
+place_below (h ∷ heads) m j e = at (λ k p. place_below heads m k p) (is_eq (name_cmp m h)) (place heads m) refl e
   where
-    at : (b : Bool) → is_eq (name_cmp x h) ≡ b → b ≡ false
-    at true e = absurd (true≢false (sym (itself h) ∙ ap (λ m. is_eq (name_cmp h m)) (sym (same_name x h e)) ∙ ap is_eq a.0))
-    at false e = refl
-above_apart h (x ∷ heads) (suc i) d a l = above_apart h heads i d a.1 (omega arith)
+    at : ((k : ℕ) → place heads m ≡ Some k → k < length heads) → (b : Bool) (o : Option ℕ) → place heads m ≡ o → cond b (Some 0) (option_map suc o) ≡ Some j → j < suc (length heads)
+    at rest true o p f = let z : 0 ≡ j = cc in omega (arith, z)
+    at rest false None p f = cc
+    at rest false (Some k) p f = let s : suc k ≡ j = cc in let more = rest k p in omega (arith, s, more)
 
--- the number of the name that stands at a place
-pub place_at : (heads : List NameArity) (i : ℕ) (d : NameArity) → Rising name_cmp heads → i < length heads → place heads (get_or heads i d) ≡ Some i
-place_at [] i d r l = absurd (omega arith)
-place_at (h ∷ heads) zero d r l = ap (λ b. cond b (Some 0) (option_map suc (place heads h))) (itself h)
-place_at (h ∷ heads) (suc i) d r l =
-    ap (λ b. cond b (Some 0) (option_map suc (place heads (get_or heads i d)))) (above_apart h heads i d r.0 (omega arith))
-    ∙ ap (option_map suc) (place_at heads i d r.1 (omega arith))
+pub place_name : (heads : List NameArity) (m : NameArity) (j : ℕ) → place heads m ≡ Some j → (d : NameArity) → get_or heads j d ≡ m
+place_name [] m j e d = cc
+place_name (h ∷ heads) m j e d = at (λ k p. place_name heads m k p d) (is_eq (name_cmp m h)) refl (place heads m) refl e
+  where
+    at : ((k : ℕ) → place heads m ≡ Some k → get_or heads k d ≡ m) → (b : Bool) → is_eq (name_cmp m h) ≡ b → (o : Option ℕ) → place heads m ≡ o → cond b (Some 0) (option_map suc o) ≡ Some j → get_or (h ∷ heads) j d ≡ m
+    at rest true is o p f = let z : 0 ≡ j = cc in ap (λ k. get_or (h ∷ heads) k d) (sym z) ∙ sym (same_names m h is)
+    at rest false is None p f = cc
+    at rest false is (Some k) p f = let s : suc k ≡ j = cc in ap (λ i. get_or (h ∷ heads) i d) (sym s) ∙ rest k p
 
-pub place_is : (heads : List NameArity) (n : NameArity) (o : Option ℕ) → Rising name_cmp heads → IsPlace o n heads → o ≡ place heads n
-place_is heads n None r p = sym (no_place heads n p)
-place_is heads n (Some i) r p = sym (ap (place heads) (sym (p.1 n)) ∙ place_at heads i n r p.0)
+pub place_some : (heads : List NameArity) (m : NameArity) → has name_cmp m heads ≡ true → (j : ℕ) × (place heads m ≡ Some j)
+place_some [] m e = absurd (true≢false (sym e))
+place_some (h ∷ heads) m e = at (is_eq (name_cmp m h)) e (place_some heads m)
+  where
+    at : (b : Bool) → (b || has name_cmp m heads) ≡ true → (has name_cmp m heads ≡ true → (j : ℕ) × (place heads m ≡ Some j)) → (j : ℕ) × (cond b (Some 0) (option_map suc (place heads m)) ≡ Some j)
+    at true f rest = (0, refl)
+    at false f rest = let (j, p) = rest f in (suc j, ap (option_map suc) p)
+
+pub placed_somewhere : (heads : List NameArity) (m : NameArity) → has name_cmp m heads ≡ true → None ≡ place heads m → ⊥
+placed_somewhere heads m e none = let (j, p) = place_some heads m e in let clash : None ≡ Some j = none ∙ p in cc
+
+module _ (heads : List NameArity) where
+  pub in_places : (names : List NameArity) (j : ℕ) → is_in j (places heads names) ≡ true → (m : NameArity) × (has name_cmp m names ≡ true) × (place heads m ≡ Some j)
+  in_places [] j e = absurd (true≢false (sym e ∙ is_in-none j))
+  in_places (n ∷ names) j e = at (in_places names j) (place heads n) refl e
+    where
+      at : (is_in j (places heads names) ≡ true → (m : NameArity) × (has name_cmp m names ≡ true) × (place heads m ≡ Some j)) → (o : Option ℕ) → place heads n ≡ o → is_in j (cons_option o (places heads names)) ≡ true → (m : NameArity) × (has name_cmp m (n ∷ names) ≡ true) × (place heads m ≡ Some j)
+      at rest None p f = let (m, h, q) = rest f in (m, or_right (is_eq (name_cmp m n)) (has name_cmp m names) h, q)
+      at rest (Some k) p f =
+          ⊎_elim
+          (λ t. (n, or_left (is_eq (name_cmp n n)) (has name_cmp n names) (itself n), p ∙ ap Some ((Decides-eqb k j).0 t)))
+          (λ t. let (m, h, q) = rest t in (m, or_right (is_eq (name_cmp m n)) (has name_cmp m names) h, q))
+          (or_cases (k == j) (is_in j (places heads names)) (sym (is_in-cons j k (places heads names)) ∙ f))
+
+  pub places_in : (names : List NameArity) (m : NameArity) (j : ℕ) → has name_cmp m names ≡ true → place heads m ≡ Some j → is_in j (places heads names) ≡ true
+  places_in [] m j e p = absurd (true≢false (sym e))
+  places_in (n ∷ names) m j e p =
+      ⊎_elim
+      (λ t. ap (λ o. is_in j (cons_option o (places heads names))) (ap (place heads) (sym (same_names m n t)) ∙ p) ∙ is_in-cons j j (places heads names) ∙ or_left (j == j) (is_in j (places heads names)) ((Decides-eqb j j).1 refl))
+      (λ t. at (place heads n) (places_in names m j t p))
+      (or_cases (is_eq (name_cmp m n)) (has name_cmp m names) e)
+    where
+      at : (o : Option ℕ) → is_in j (places heads names) ≡ true → is_in j (cons_option o (places heads names)) ≡ true
+      at None f = f
+      at (Some k) f = is_in-cons j k (places heads names) ∙ or_right (k == j) (is_in j (places heads names)) f
 
 pub places-append : (heads xs ys : List NameArity) → places heads (xs ++ ys) ≡ places heads xs ++ places heads ys
 places-append heads xs ys = filter_map-append (place heads) xs ys
-
-pub one_place : (heads : List NameArity) (n : NameArity) (i : ℕ) → Rising name_cmp heads → IsPlace (Some i) n heads → places heads (n ∷ []) ≡ i ∷ []
-one_place heads n i r p = ap (λ o. cons_option o []) (sym (place_is heads n (Some i) r p))
-
-pub none_place : (heads : List NameArity) (n : NameArity) → has name_cmp n heads ≡ false → places heads (n ∷ []) ≡ []
-none_place heads n e = ap (λ o. cons_option o []) (no_place heads n e)
 
 pub ruleset placings = (places-append, append_assoc)

@@ -1,6 +1,7 @@
 -- No variable stands where it may not exactly where the plain statements hold.
 use Rattle.std.proofs.Common.{◌≡◌, ℕ, ◌+◌, Bool, true, false, not, ◌||◌, ◌&&◌, ◌==◌, cond, List, [], ◌∷◌, ◌++◌, map, refl, ap, sym, ◌∙◌}
-use Rattle.std.proofs.lemmas.Bool.{and_parts, true≢false}
+use Rattle.std.proofs.Math.Logic.{⊎_elim}
+use Rattle.std.proofs.lemmas.Bool.{and_parts, and_from, true≢false, or_left, or_right, or_cases}
 use Rattle.std.proofs.lemmas.Bool.Decides.{Decides-eqb}
 use Rattle.rule_ast.specs.Trees.{PlainPattern, Atom, Both, Either, Where, Exact, Within, Not, PlainRule}
 use Rattle.rule_ast.specs.Vars.{atom_vars, vars, is_in, is_in-none, is_in-cons, is_in-append}
@@ -23,20 +24,6 @@ module _ {A : Type 0} where
   pub none_map : {B : Type 0} (f : A → B) (xs : List A) → xs ≡ [] → map f xs ≡ []
   none_map f xs e = ap (map f) e
 
-or_left : (a b : Bool) → a ≡ true → (a || b) ≡ true
-or_left a b e = ap (λ c. c || b) e
-
-or_right : (a b : Bool) → b ≡ true → (a || b) ≡ true
-or_right true b e = refl
-or_right false b e = e
-
-or_cases : (a b : Bool) {P : Type 0} → (a ≡ true → P) → (b ≡ true → P) → (a || b) ≡ true → P
-or_cases true b f g e = f refl
-or_cases false b f g e = g e
-
-both_hold : (a b : Bool) → a ≡ true → b ≡ true → (a && b) ≡ true
-both_hold a b e f = ap (λ c. c && b) e ∙ f
-
 -- every one of these may stand there
 abbrev All : (ℕ → Bool) → List ℕ → Type 0
 All may xs = (s : ℕ) → is_in s xs ≡ true → may s ≡ true
@@ -49,7 +36,7 @@ outside_none may [] e s h = absurd (true≢false (sym h ∙ is_in-none s))
 outside_none may (x ∷ xs) e s h = at (may x) refl (outside_none may xs) e
   where
     at : (b : Bool) → may x ≡ b → (outside may xs ≡ [] → All may xs) → cond (not b) (x ∷ outside may xs) (outside may xs) ≡ [] → may s ≡ true
-    at true m rest f = or_cases (x == s) (is_in s xs) (same_slot may x s m) (rest f s) (sym (is_in-cons s x xs) ∙ h)
+    at true m rest f = ⊎_elim (same_slot may x s m) (rest f s) (or_cases (x == s) (is_in s xs) (sym (is_in-cons s x xs) ∙ h))
     at false m rest f = cc
 
 none_outside : (may : ℕ → Bool) (xs : List ℕ) → All may xs → outside may xs ≡ []
@@ -66,7 +53,7 @@ all_right : (may : ℕ → Bool) (xs ys : List ℕ) → All may (xs ++ ys) → A
 all_right may xs ys h s e = h s (is_in-append s xs ys ∙ or_right (is_in s xs) (is_in s ys) e)
 
 all_both : (may : ℕ → Bool) (xs ys : List ℕ) → All may xs → All may ys → All may (xs ++ ys)
-all_both may xs ys h g s e = or_cases (is_in s xs) (is_in s ys) (h s) (g s) (sym (is_in-append s xs ys) ∙ e)
+all_both may xs ys h g s e = ⊎_elim (h s) (g s) (or_cases (is_in s xs) (is_in s ys) (sym (is_in-append s xs ys) ∙ e))
 
 -- ---- WHERE
 
@@ -127,8 +114,8 @@ ors_back may (Both op l r) h m =
     none_append (or_offenders may l) (or_offenders may r) (ors_back may l h.0 (all_left may (vars l) (vars r) m)) (ors_back may r h.1 (all_right may (vars l) (vars r) m))
 ors_back may (Either l r) h m =
     none_append (or_offenders (λ s. may s && is_in s (vars r)) l) (or_offenders (λ s. may s && is_in s (vars l)) r)
-    (ors_back (λ s. may s && is_in s (vars r)) l h.0 (λ s e. both_hold (may s) (is_in s (vars r)) (all_left may (vars l) (vars r) m s e) (h.2 s e)))
-    (ors_back (λ s. may s && is_in s (vars l)) r h.1 (λ s e. both_hold (may s) (is_in s (vars l)) (all_right may (vars l) (vars r) m s e) (h.3 s e)))
+    (ors_back (λ s. may s && is_in s (vars r)) l h.0 (λ s e. and_from (may s) (is_in s (vars r)) (all_left may (vars l) (vars r) m s e) (h.2 s e)))
+    (ors_back (λ s. may s && is_in s (vars l)) r h.1 (λ s e. and_from (may s) (is_in s (vars l)) (all_right may (vars l) (vars r) m s e) (h.3 s e)))
 ors_back may (Where p c) h m = ors_back may p h m
 ors_back may (Exact p q) h m = ors_back may p h m
 ors_back may (Within p q) h m = ors_back may p h m

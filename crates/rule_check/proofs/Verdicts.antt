@@ -1,37 +1,29 @@
 -- What the steps of a check tell of the whole.
-use Rattle.std.proofs.Common.{◌≡◌, ℕ, ◌+◌, ◌≤◌, Bool, true, false, cond, ◌||◌, Some, None, List, [], ◌∷◌, ◌++◌, length, map, refl, ap, sym, subst, ◌∙◌, ◌⊎◌, inl, inr, arith, leb-true}
+use Rattle.std.proofs.Common.{◌≡◌, ℕ, ◌+◌, Bool, true, false, cond, ◌||◌, Some, None, List, [], ◌∷◌, ◌++◌, length, map, refl, ap, sym, subst, ◌∙◌, ◌⊎◌, inl, inr, arith, ◌<◌, ◌^◌}
 use Rattle.std.specs.Ordering.{is_eq}
-use Rattle.std.proofs.lemmas.Bool.{true≢false}
+use Rattle.std.proofs.lemmas.Bool.{true≢false, or_left, or_right}
 use Rattle.ordered_lists.specs.Canon.{canon, has}
 use Rattle.ev_term.specs.declared.atoms.NameArity.{NameArity}
-use Rattle.rule_ast.specs.declared.statements.Statement.{Statement}
-use Rattle.rule_ast.specs.Plain.{plain_statement}
-use Rattle.rule_ast.specs.Shaped.{IsShaped}
-use Rattle.rule_ast.specs.Trees.{PlainRule, PlainStatement}
+use Rattle.rule_ast.specs.Trees.{PlainRule, PlainStatement, Clause, Show}
 use Rattle.rule_check.specs.Offenders.{first}
 use Rattle.rule_check.specs.Sound.{rules_of}
-use Rattle.ev_term.specs.EventOrder.{name_cmp}
+use Rattle.ev_term.specs.EventOrder.{name_cmp, same_names}
 use Rattle.rule_ast.specs.Shown.{shown_names}
-use Rattle.rule_check.specs.Names.{head_names, unknown_shows, AreShownKnown}
+use Rattle.rule_check.specs.Names.{head_names, has_show, outputs, unknown_shows, AreShownKnown}
 use Rattle.rule_check.specs.Graphs.{HasCycle, IsGraph, IsRankList}
-use Rattle.rule_check.specs.Cycles.{AreAcyclic, IsFirstCycle, graph_of, rank_by}
+use Rattle.rule_check.specs.Cycles.{AreAcyclic, IsFirstCycle, graph_of}
+use Rattle.rule_check.specs.Numbers.{first_seen, rank_by}
 use Rattle.rule_check.specs.Faults.{variable_faults}
 use Rattle.rule_check.specs.Verdict.{IsSound, IsRefusal, show_faults, early_faults, AreNameRanks}
 use Rattle.rule_check.specs.declared.faults.CheckFault.{CheckFault}
 use Rattle.rule_check.specs.declared.faults.CheckFault.TheVariants.{ShowUnknown, Cycle, Memory}
-use Rattle.rule_check.proofs.Safety.{append_none, none_append, safe_rules, safe_rules_back}
-use Rattle.rule_check.proofs.CleanRules.{few_rules}
-use Rattle.rule_check.proofs.Placing.{itself, same_name}
+use Rattle.rule_check.proofs.Safety.{append_none, none_append, map_none, safe_rules, safe_rules_back}
+use Rattle.rule_check.proofs.CleanRules.{first_front}
+use Rattle.rule_check.proofs.Placing.{itself}
 use Rattle.rule_check.proofs.NameGraph.{graph_is, graph_length}
 use Rattle.rule_check.proofs.Cycling.{some_cycle, is_ranking, none_on_cycle}
-use Rattle.rule_check.proofs.Ranking.{few_heads, heads_have, few_ranks, rank_is_one, one_ranking}
-
-or_left : (a b : Bool) → a ≡ true → (a || b) ≡ true
-or_left a b e = ap (λ c. c || b) e
-
-or_right : (a b : Bool) → b ≡ true → (a || b) ≡ true
-or_right true b e = refl
-or_right false b e = e
+use Rattle.rule_check.proofs.Numbering.{few_heads, heads_have, heads_in_order}
+use Rattle.rule_check.proofs.Ranking.{few_ranks, rank_is_one, one_ranking}
 
 -- ---- shown names
 
@@ -47,7 +39,7 @@ none_unknown k heads (m ∷ shown) e n h =
   where
     at : (b : Bool) → is_eq (name_cmp n m) ≡ b → (c : Bool) → has name_cmp m heads ≡ c → cond c [] (k ∷ []) ≡ [] → (has name_cmp n shown ≡ true → has name_cmp n heads ≡ true)
         → (b || has name_cmp n shown) ≡ true → has name_cmp n heads ≡ true
-    at true is true known g rest f = ap (λ q. has name_cmp q heads) (same_name n m is) ∙ known
+    at true is true known g rest f = ap (λ q. has name_cmp q heads) (same_names n m is) ∙ known
     at true is false known g rest f = cc
     at false is c known g rest f = rest f
 
@@ -66,9 +58,9 @@ first_map : {A B : Type 0} (f : A → B) (xs : List A) (x : A) → Some x ≡ fi
 first_map f [] x e = cc
 first_map f (y ∷ xs) x e = cc
 
-module _ (statements : List PlainStatement) (heads : List NameArity) (is : heads ≡ canon name_cmp (head_names (rules_of statements))) where
+module _ (statements : List PlainStatement) (heads : List NameArity) (is : heads ≡ first_seen (head_names (rules_of statements))) where
   same_unknown : unknown_shows 1 heads (shown_names statements) ≡ unknown_shows 1 (head_names (rules_of statements)) (shown_names statements)
-  same_unknown = unknown_same heads (head_names (rules_of statements)) (shown_names statements) 1 (heads_have heads (rules_of statements) is)
+  same_unknown = unknown_same heads (head_names (rules_of statements)) (shown_names statements) 1 (heads_have (rules_of statements) heads is)
 
   pub show_unknown : (k : ℕ) → Some k ≡ first (unknown_shows 1 heads (shown_names statements)) → first (show_faults statements) ≡ Some (ShowUnknown k)
   show_unknown k e = first_map (λ k. ShowUnknown k) (unknown_shows 1 (head_names (rules_of statements)) (shown_names statements)) k (e ∙ ap first same_unknown)
@@ -76,24 +68,36 @@ module _ (statements : List PlainStatement) (heads : List NameArity) (is : heads
   pub show_known : None ≡ first (unknown_shows 1 heads (shown_names statements)) → show_faults statements ≡ []
   show_known e = ap (map (λ k. ShowUnknown k)) (empty_first (unknown_shows 1 (head_names (rules_of statements)) (shown_names statements)) (e ∙ ap first same_unknown))
 
-map_none : {A B : Type 0} (f : A → B) (xs : List A) → map f xs ≡ [] → xs ≡ []
-map_none f [] e = refl
-map_none f (x ∷ xs) e = cc
-
-pub known_shown : (statements : List PlainStatement) → show_faults statements ≡ [] → AreShownKnown statements
+known_shown : (statements : List PlainStatement) → show_faults statements ≡ [] → AreShownKnown statements
 known_shown statements e = none_unknown 1 (head_names (rules_of statements)) (shown_names statements) (map_none (λ k. ShowUnknown k) (unknown_shows 1 (head_names (rules_of statements)) (shown_names statements)) e)
 
 shown_known : (statements : List PlainStatement) → AreShownKnown statements → show_faults statements ≡ []
 shown_known statements h = ap (map (λ k. ShowUnknown k)) (unknown_none 1 (head_names (rules_of statements)) (shown_names statements) h)
 
+-- ---- names that are given out
+
+none_shown : (statements : List PlainStatement) → has_show statements ≡ false → shown_names statements ≡ []
+none_shown [] e = refl
+none_shown (Clause r ∷ statements) e = none_shown statements e
+none_shown (Show names ∷ statements) e = absurd (true≢false e)
+
+pub outputs_shown : (statements : List PlainStatement) (names : List NameArity) → has_show statements ≡ true → names ≡ shown_names statements → canon name_cmp names ≡ outputs statements
+outputs_shown statements names e is = λ i. canon name_cmp (cond (sym e i) (is i) (head_names (rules_of statements)))
+
+pub outputs_heads : (statements : List PlainStatement) (names heads : List NameArity) → has_show statements ≡ false → names ≡ shown_names statements → heads ≡ first_seen (head_names (rules_of statements))
+    → canon name_cmp (names ++ heads) ≡ outputs statements
+outputs_heads statements names heads e is heads_is =
+    ap (λ l. canon name_cmp (l ++ heads)) (is ∙ none_shown statements e) ∙ heads_in_order (rules_of statements) heads heads_is
+    ∙ ap (λ b. canon name_cmp (cond b (shown_names statements) (head_names (rules_of statements)))) (sym e)
+
 -- ---- cycles
 
-module _ (rules : List PlainRule) (heads : List NameArity) (is : heads ≡ canon name_cmp (head_names rules)) (graph : List (List ℕ)) (built : graph ≡ graph_of heads rules) where
+module _ (rules : List PlainRule) (heads : List NameArity) (is : heads ≡ first_seen (head_names rules)) (graph : List (List ℕ)) (built : graph ≡ graph_of heads rules) where
   pub graph_nodes : IsGraph graph
   graph_nodes = subst IsGraph (sym built) (graph_is heads rules)
 
-  pub few_nodes : length rules ≤ 1024 → length graph ≤ 1024
-  few_nodes few = let a = few_heads heads rules is in omega (arith, few, a, ap length built, graph_length heads rules)
+  pub few_nodes : length rules < 2 ^ 32 → length graph < 2 ^ 32
+  few_nodes few = let a = few_heads rules heads is in omega (arith, few, a, ap length built, graph_length heads rules)
 
   pub cycle_somewhere : HasCycle graph → AreAcyclic rules rules → ⊥
   cycle_somewhere c a = some_cycle heads rules (subst HasCycle built c) a
@@ -101,20 +105,14 @@ module _ (rules : List PlainRule) (heads : List NameArity) (is : heads ≡ canon
   pub name_ranks : (ranks : List ℕ) → IsRankList graph ranks → AreNameRanks rules heads ranks
   name_ranks ranks given =
       let r : IsRankList (graph_of heads rules) ranks = subst (λ g. IsRankList g ranks) built given in
-      let ranking = is_ranking heads ranks rules (heads_have heads rules is) r in
-      let few = few_ranks heads rules ranks is r in
+      let ranking = is_ranking heads ranks rules (heads_have rules heads is) r in
+      let few = few_ranks heads rules ranks (few_heads rules heads is) r in
       record {
         are = rank_is_one rules (rank_by heads ranks) ranking few;
         sized = r.sized ∙ graph_length heads rules;
         ranking = one_ranking rules (rank_by heads ranks) ranking few;
         acyclic = none_on_cycle rules (rank_by heads ranks) ranking;
       }
-
-pub few_of_shaped : (xs : List Statement) → IsShaped (map plain_statement xs) → length (rules_of (map plain_statement xs)) ≤ 1024
-few_of_shaped xs s =
-    let few = few_rules (map plain_statement xs) in
-    let all : length (map plain_statement xs) ≤ 1024 = leb-true (length (map plain_statement xs)) 1024 s.few in
-    omega (arith, few, all)
 
 first_off : (rules : List PlainRule) (number : ℕ) (rs : List PlainRule) (k : ℕ) → IsFirstCycle rules number rs k → AreAcyclic rules rs → ⊥
 first_off rules number [] k f a = f
@@ -137,10 +135,6 @@ refused_sound statements fault s (inr (inl e)) = at (first_none (none_append _ _
     at : first (early_faults statements) ≡ None → fault ≡ Memory
     at n = let clash : Some fault ≡ None = sym e ∙ n in cc
 refused_sound statements fault s (inr (inr (n, (k, e, c)))) = absurd (first_off (rules_of statements) 1 (rules_of statements) k c s.acyclic)
-
-first_front : {A : Type 0} (xs ys : List A) (x : A) → first xs ≡ Some x → first (xs ++ ys) ≡ Some x
-first_front [] ys x e = cc
-first_front (y ∷ xs) ys x e = e
 
 pub refused_variables : (statements : List PlainStatement) (fault : CheckFault) → (fault ≡ Memory) ⊎ (first (variable_faults 1 (rules_of statements)) ≡ Some fault) → IsRefusal fault statements
 refused_variables statements fault (inl m) = inl m

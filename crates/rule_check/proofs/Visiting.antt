@@ -1,7 +1,7 @@
 -- Visits of a graph that give each node a rank above those of its targets.
-use Rattle.std.proofs.Common.{◌≡◌, ℕ, zero, suc, ◌+◌, ◌<◌, ◌≤◌, max, Bool, true, false, cond, ◌||◌, ◌==◌, List, [], ◌∷◌, ◌++◌, length, get_or, set, replicate, map, refl, ap, sym, subst, ◌∙◌, ◌⊎◌, inl, inr, arith}
-use Rattle.std.proofs.lemmas.Bool.{true≢false, cases_eq}
-use Rattle.std.proofs.lemmas.List.{get_or-set_same, get_or-set_other, map-append, length-map, length-replicate}
+use Rattle.std.proofs.Common.{◌≡◌, ℕ, zero, suc, ◌+◌, ◌<◌, ◌≤◌, max, Bool, true, false, cond, ◌||◌, ◌==◌, List, [], ◌∷◌, ◌++◌, length, get_or, set, map, refl, ap, sym, subst, ◌∙◌, ◌⊎◌, inl, inr, arith}
+use Rattle.std.proofs.lemmas.Bool.{true≢false, cases_eq, both_ways, or_right}
+use Rattle.std.proofs.lemmas.List.{get_or-set_same, get_or-set_other, map-append, length-map}
 use Rattle.rule_ast.specs.Vars.{is_in, is_in-none, is_in-cons}
 use Rattle.rule_check.specs.Graphs.{Reaches, stop, step, Returns, greatest, leads, targets, mark_at, is_open, is_new, is_ranked, rank_of, rank_at, tally, AreRanked, Follows, OpenLead, Visited, IsRankList, RankedBelow}
 use Rattle.rule_check.specs.declared.graph.Mark.{Mark}
@@ -21,19 +21,20 @@ one_at_most : (b : Bool) → ones b ≤ 1
 one_at_most true = omega arith
 one_at_most false = omega arith
 
-pub tally_few : (test : Mark → Bool) (ms : List Mark) → tally test ms ≤ length ms
+tally_few : (test : Mark → Bool) (ms : List Mark) → tally test ms ≤ length ms
 tally_few test [] = omega arith
 tally_few test (x ∷ ms) = let more = tally_few test ms in let first = one_at_most (test x) in omega (arith, more, first)
+
+tally_below : (test : Mark → Bool) (ms : List Mark) (i : ℕ) → i < length ms → test (mark_at ms i) ≡ false → tally test ms < length ms
+tally_below test [] i h e = absurd (omega arith)
+tally_below test (x ∷ ms) zero h e = let few = tally_few test ms in omega (arith, few, ap ones e)
+tally_below test (x ∷ ms) (suc i) h e = let first = one_at_most (test x) in let more = tally_below test ms i (omega arith) e in omega (arith, first, more)
 
 map_agree : (f g : ℕ → ℕ) (xs : List ℕ) → ((j : ℕ) → is_in j xs ≡ true → f j ≡ g j) → map f xs ≡ map g xs
 map_agree f g [] h = refl
 map_agree f g (x ∷ xs) h =
     λ i. h x (is_in-cons x x xs ∙ ap (λ b. b || is_in x xs) ((Decides-eqb x x).1 refl)) i
-    ∷ map_agree f g xs (λ j e. h j (is_in-cons j x xs ∙ ap (λ b. (x == j) || b) e ∙ any (x == j))) i
-  where
-    any : (b : Bool) → (b || true) ≡ true
-    any true = refl
-    any false = refl
+    ∷ map_agree f g xs (λ j e. h j (is_in-cons j x xs ∙ or_right (x == j) (is_in j xs) e)) i
 
 greatest-more : (xs : List ℕ) (x : ℕ) → greatest (xs ++ x ∷ []) ≡ max (greatest xs) x
 greatest-more [] x = omega arith
@@ -43,15 +44,8 @@ greatest_few : (f : ℕ → ℕ) (xs : List ℕ) (n : ℕ) → ((j : ℕ) → is
 greatest_few f [] n h = omega arith
 greatest_few f (x ∷ xs) n h =
     let first = h x (is_in-cons x x xs ∙ ap (λ b. b || is_in x xs) ((Decides-eqb x x).1 refl)) in
-    let more = greatest_few f xs n (λ j e. h j (is_in-cons j x xs ∙ ap (λ b. (x == j) || b) e ∙ any (x == j))) in
+    let more = greatest_few f xs n (λ j e. h j (is_in-cons j x xs ∙ or_right (x == j) (is_in j xs) e)) in
     omega (arith, first, more)
-  where
-    any : (b : Bool) → (b || true) ≡ true
-    any true = refl
-    any false = refl
-
-clash : {P : Type 0} (b : Bool) → b ≡ false → b ≡ true → P
-clash b e f = absurd (true≢false (sym f ∙ e))
 
 open_unranked : (m : Mark) → is_open m ≡ true → is_ranked m ≡ false
 open_unranked New e = refl
@@ -105,11 +99,11 @@ module _ (graph : List (List ℕ)) where
       }
         where
           back : (i : ℕ) → (i ≡ node) ⊎ (i ≡ node → ⊥) → is_ranked (mark_at (set old node Open) i) ≡ true → mark_at (set old node Open) i ≡ mark_at old i
-          back i (inl e) r = clash (is_ranked (mark_at (set old node Open) i)) (ap (λ k. is_ranked (mark_at (set old node Open) k)) e ∙ ap is_ranked opened) r
+          back i (inl e) r = absurd (both_ways (is_ranked (mark_at (set old node Open) i)) (ap (λ k. is_ranked (mark_at (set old node Open) k)) e ∙ ap is_ranked opened) r)
           back i (inr d) r = other Open i d
 
           forth : (i : ℕ) → (i ≡ node) ⊎ (i ≡ node → ⊥) → is_ranked (mark_at old i) ≡ true → mark_at (set old node Open) i ≡ mark_at old i
-          forth i (inl e) r = clash (is_ranked (mark_at old i)) (ap (λ k. is_ranked (mark_at old k)) e ∙ ap is_ranked new) r
+          forth i (inl e) r = absurd (both_ways (is_ranked (mark_at old i)) (ap (λ k. is_ranked (mark_at old k)) e ∙ ap is_ranked new) r)
           forth i (inr d) r = other Open i d
 
       -- the measure falls
@@ -144,11 +138,20 @@ module _ (graph : List (List ℕ)) where
             ∙ sym (greatest-more (map (rank_at next) followed) (rank_at next t)) ∙ ap greatest (sym (map-append (rank_at next) followed (t ∷ [])));
       }
 
-      pub top_few : (now : List Mark) (followed : List ℕ) (top : ℕ) → Visiting now followed top → top ≤ tally is_ranked now
+      top_few : (now : List Mark) (followed : List ℕ) (top : ℕ) → Visiting now followed top → top ≤ tally is_ranked now
       top_few now followed top v =
           let all = greatest_few (rank_at now) followed (tally is_ranked now) (λ j f. v.ranked.few j (v.done j f)) in
           let is = v.is_top in
           omega (arith, all, is)
+
+      open_still : (now : List Mark) (followed : List ℕ) (top : ℕ) → Visiting now followed top → is_open (mark_at now node) ≡ true
+      open_still now followed top v = v.follows.open_as_before node ∙ ap is_open opened
+
+      pub top_below : (now : List Mark) (followed : List ℕ) (top : ℕ) → length now ≡ length old → Visiting now followed top → top < length now
+      top_below now followed top sized v =
+          let few = top_few now followed top v in
+          let below = tally_below is_ranked now node (omega (arith, h, sized)) (open_unranked (mark_at now node) (open_still now followed top v)) in
+          omega (arith, few, below)
 
       module _ (now : List Mark) (top : ℕ) (sized : length now ≡ length old) (v : Visiting now (targets graph node) top) where
         abbrev final : List Mark
@@ -158,7 +161,7 @@ module _ (graph : List (List ℕ)) where
         within = omega arith
 
         open_now : is_open (mark_at now node) ≡ true
-        open_now = v.follows.open_as_before node ∙ ap is_open opened
+        open_now = open_still now (targets graph node) top v
 
         here : mark_at final node ≡ Ranked (top + 1)
         here = get_or-set_same now node (Ranked (top + 1)) New within
@@ -167,7 +170,7 @@ module _ (graph : List (List ℕ)) where
         elsewhere i d = get_or-set_other now node i (Ranked (top + 1)) New d
 
         still : (i : ℕ) → is_ranked (mark_at now i) ≡ true → mark_at final i ≡ mark_at now i
-        still i r = elsewhere i (λ e. clash (is_ranked (mark_at now i)) (ap (λ k. is_ranked (mark_at now k)) e ∙ open_unranked (mark_at now node) open_now) r)
+        still i r = elsewhere i (λ e. absurd (both_ways (is_ranked (mark_at now i)) (ap (λ k. is_ranked (mark_at now k)) e ∙ open_unranked (mark_at now node) open_now) r))
 
         was : (i : ℕ) → (i ≡ node → ⊥) → is_ranked (mark_at final i) ≡ true → is_ranked (mark_at now i) ≡ true
         was i d r = ap is_ranked (sym (elsewhere i d)) ∙ r
@@ -199,7 +202,7 @@ module _ (graph : List (List ℕ)) where
             omega (arith, is, few, count)
 
         kept : (i : ℕ) → (i ≡ node) ⊎ (i ≡ node → ⊥) → is_ranked (mark_at old i) ≡ true → mark_at final i ≡ mark_at old i
-        kept i (inl e) r = clash (is_ranked (mark_at old i)) (ap (λ k. is_ranked (mark_at old k)) e ∙ ap is_ranked new) r
+        kept i (inl e) r = absurd (both_ways (is_ranked (mark_at old i)) (ap (λ k. is_ranked (mark_at old k)) e ∙ ap is_ranked new) r)
         kept i (inr d) r = elsewhere i d ∙ v.follows.ranked i (ap is_ranked (other Open i d) ∙ r) ∙ other Open i d
 
         as_before : (i : ℕ) → (i ≡ node) ⊎ (i ≡ node → ⊥) → is_open (mark_at final i) ≡ is_open (mark_at old i)
@@ -223,45 +226,6 @@ module _ (graph : List (List ℕ)) where
                 omega (arith, t, f, ap ones (open_old (mark_at now node) open_now));
           };
         }
-
-    pub visited_already : (rank : ℕ) → mark_at old node ≡ Ranked rank → AreRanked graph old → Visited graph node rank old old
-    visited_already rank e a = record {
-      rank_is = e;
-      ranked = a;
-      follows = record { ranked = λ i r. refl; open_as_before = λ i. refl; fewer = omega arith };
-    }
-
-all_new : (n i : ℕ) → mark_at (replicate n New) i ≡ New
-all_new zero i = refl
-all_new (suc n) zero = refl
-all_new (suc n) (suc i) = all_new n i
-
-pub none_ranked : (graph : List (List ℕ)) (n : ℕ) → n ≡ length graph → RankedBelow graph (replicate n New) 0
-none_ranked graph n is = record {
-  sized = length-replicate n New ∙ is;
-  ranked = record {
-    below = λ i j r l. absurd (true≢false (sym r ∙ ap is_ranked (all_new n i)));
-    rank = λ i r. absurd (true≢false (sym r ∙ ap is_ranked (all_new n i)));
-    few = λ i r. absurd (true≢false (sym r ∙ ap is_ranked (all_new n i)));
-  };
-  closed = λ i. ap is_open (all_new n i);
-  done = λ i h. absurd (omega arith);
-}
-
-pub none_open : (graph : List (List ℕ)) (marks : List Mark) (below node : ℕ) → RankedBelow graph marks below → OpenLead graph marks node
-none_open graph marks below node r i e = clash (is_open (mark_at marks i)) (r.closed i) e
-
-pub one_ranked : (graph : List (List ℕ)) (marks new : List Mark) (node rank : ℕ) → RankedBelow graph marks node → length new ≡ length marks → Visited graph node rank marks new → RankedBelow graph new (node + 1)
-one_ranked graph marks new node rank r same v = record {
-  sized = same ∙ r.sized;
-  ranked = v.ranked;
-  closed = λ i. v.follows.open_as_before i ∙ r.closed i;
-  done = λ i h. at i (cases_eq i node) h;
-}
-  where
-    at : (i : ℕ) → (i ≡ node) ⊎ (i ≡ node → ⊥) → i < node + 1 → is_ranked (mark_at new i) ≡ true
-    at i (inl e) h = ap (λ k. is_ranked (mark_at new k)) e ∙ ap is_ranked v.rank_is
-    at i (inr d) h = let old = r.done i (omega (arith, d, h)) in ap is_ranked (v.follows.ranked i old) ∙ old
 
 rank_in_list : (marks : List Mark) (i : ℕ) → get_or (map rank_of marks) i 0 ≡ rank_at marks i
 rank_in_list [] i = refl

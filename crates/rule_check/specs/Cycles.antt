@@ -1,14 +1,15 @@
 -- Which names stand on which, the rules on a cycle, and ranks of names.
-use Rattle.std.specs.Prelude.{ℕ, ◌≡◌, ◌+◌, ◌≤◌, ◌⊎◌, Bool, true, false, cond, Option, Some, None, option_map, zero, suc, length, List, [], ◌∷◌, map}
+use Rattle.std.specs.Prelude.{ℕ, ◌≡◌, ◌+◌, ◌≤◌, ◌⊎◌, Bool, true, false, cond, Option, Some, None, zero, suc, length, List, [], ◌∷◌, ◌++◌, map, slice_set}
 use Rattle.std.proofs.Common.{arith}
-use Rattle.std.specs.List.{flat_map, filter_map}
+use Rattle.std.specs.List.{flat_map}
 use Rattle.std.specs.Ordering.{is_eq}
 use Rattle.ordered_lists.specs.Canon.{has}
 use Rattle.ev_term.specs.declared.atoms.NameArity.{NameArity}
 use Rattle.rule_ast.specs.Trees.{PlainRule}
 use Rattle.ev_term.specs.EventOrder.{name_cmp}
 use Rattle.rule_check.specs.Names.{head_name, head_names, body_names}
-use Rattle.rule_check.specs.Graphs.{Reaches, greatest}
+use Rattle.rule_check.specs.Graphs.{Reaches, greatest, targets}
+use Rattle.rule_check.specs.Numbers.{place, places}
 
 -- the names in the bodies of a name's rules
 abbrev pub below : List PlainRule → NameArity → List NameArity
@@ -29,7 +30,9 @@ AreAcyclic rules (r ∷ rs) = (IsOnCycle rules r → ⊥) × AreAcyclic rules rs
 -- of these, the first of which has this number, k is the number of the first that is on a cycle of the rules
 abbrev pub IsFirstCycle : List PlainRule → ℕ → List PlainRule → ℕ → Type 0
 IsFirstCycle rules number [] k = ⊥
-IsFirstCycle rules number (r ∷ rs) k = ((k ≡ number) × IsOnCycle rules r) ⊎ ((IsOnCycle rules r → ⊥) × IsFirstCycle rules (number + 1) rs k)
+IsFirstCycle rules number (r ∷ rs) k =
+    ((k ≡ number) × IsOnCycle rules r)
+    ⊎ ((IsOnCycle rules r → ⊥) × IsFirstCycle rules (number + 1) rs k)
 
 -- a name that heads no rule has rank 0, and another one more than the greatest rank in the bodies of its rules
 abbrev pub IsRanking : List PlainRule → (NameArity → ℕ) → Type 0
@@ -50,9 +53,11 @@ greatest_most f k h (n ∷ names) = let first = h n in let more = greatest_most 
 
 rank_within_most : (rules : List PlainRule) (k : ℕ) (n : NameArity) → rank_within k rules n ≤ k
 rank_within_most rules zero n = omega arith
-rank_within_most rules (suc k) n = at (has name_cmp n (head_names rules)) (greatest_most (rank_within k rules) k (rank_within_most rules k) (below rules n))
+rank_within_most rules (suc k) n =
+    at (has name_cmp n (head_names rules)) (greatest_most (rank_within k rules) k (rank_within_most rules k) (below rules n))
   where
-    at : (b : Bool) → greatest (map (rank_within k rules) (below rules n)) ≤ k → cond b (greatest (map (rank_within k rules) (below rules n)) + 1) 0 ≤ suc k
+    at : (b : Bool) → greatest (map (rank_within k rules) (below rules n)) ≤ k
+        → cond b (greatest (map (rank_within k rules) (below rules n)) + 1) 0 ≤ suc k
     at true h = omega (arith, h)
     at false h = omega arith
 
@@ -61,26 +66,15 @@ pub rank_most : (rules : List PlainRule) (n : NameArity) → rank_of rules n ≤
 unfolding rank_of
 rank_most rules n = rank_within_most rules (length rules) n
 
--- ---- names by number
-
--- the number of a name among names that differ
-abbrev pub place : List NameArity → NameArity → Option ℕ
-place [] n = None
-place (h ∷ heads) n = cond (is_eq (name_cmp n h)) (Some 0) (option_map suc (place heads n))
-
--- the numbers of those names that are among these
-abbrev pub places : List NameArity → List NameArity → List ℕ
-places heads names = filter_map (place heads) names
-
 -- for each name, the numbers of those that it stands on
 abbrev pub graph_of : List NameArity → List PlainRule → List (List ℕ)
 graph_of heads rules = map (λ h. places heads (below rules h)) heads
 
--- the rank that stands at a name's number
-abbrev pub rank_by : List NameArity → List ℕ → NameArity → ℕ
-rank_by [] ranks n = 0
-rank_by (h ∷ heads) [] n = 0
-rank_by (h ∷ heads) (r ∷ ranks) n = cond (is_eq (name_cmp n h)) r (rank_by heads ranks n)
+-- the row of the rule's head has the numbers of its body's names behind the old ones
+abbrev pub IsRowGrown : List NameArity → PlainRule → (old new : List (List ℕ)) → Type 0
+IsRowGrown heads r old new =
+    (i : ℕ) → place heads (head_name r) ≡ Some i
+    → new ≡ slice_set old i (targets old i ++ places heads (body_names r.body))
 
 -- the number of the first rule on a cycle, or nothing where none is
 abbrev pub IsCycleAnswer : Option ℕ → List PlainRule → Type 0

@@ -1,9 +1,11 @@
 pub mod Offenders
 pub mod Allowed
 pub mod Sound
+pub mod Gathered
 pub mod Names
+pub mod Numbers
 pub mod Graphs
-pub mod Components
+pub mod Marking
 pub mod Cycles
 pub mod Faults
 pub mod Verdict

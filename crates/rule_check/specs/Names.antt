@@ -1,10 +1,6 @@
 -- The names of rules: those that head rules, those that stand in bodies, and those that are shown.
-use Rattle.std.specs.Prelude.{ℕ, ◌≡◌, ◌+◌, ◌<◌, Bool, true, false, cond, get_or, Option, Some, None, List, [], ◌∷◌, ◌++◌, length, map}
-use Rattle.std.specs.Ordering.{nat_cmp, on, then_cmp}
-use Rattle.std.specs.declared.cmp.Ordering.{Ordering}
+use Rattle.std.specs.Prelude.{ℕ, ◌≡◌, ◌+◌, Bool, true, false, cond, List, [], ◌∷◌, ◌++◌, length, map}
 use Rattle.ordered_lists.specs.Canon.{canon, has}
-use Rattle.ordered_lists.specs.Canon.{Exact as TellsApart}
-use Rattle.ordered_lists.specs.Orders.{exact_numbers, exact_texts, exact_then}
 use Rattle.ev_term.specs.EventOrder.{name_cmp}
 use Rattle.ev_term.specs.declared.atoms.PatAtom.{PatAtom}
 use Rattle.ev_term.specs.declared.atoms.NameArity.{NameArity}
@@ -49,9 +45,6 @@ unknown_shows number heads (n ∷ names) = cond (has name_cmp n heads) [] (numbe
 
 -- each shown name heads a rule
 abbrev pub AreShownKnown : List PlainStatement → Type 0
-AreShownKnown statements = (n : NameArity) → has name_cmp n (shown_names statements) ≡ true → has name_cmp n (head_names (rules_of statements)) ≡ true
-
--- where a name stands in a list, or that it doesn't
-abbrev pub IsPlace : Option ℕ → NameArity → List NameArity → Type 0
-IsPlace None n names = has name_cmp n names ≡ false
-IsPlace (Some i) n names = (i < length names) × ((d : NameArity) → get_or names i d ≡ n)
+AreShownKnown statements =
+    (n : NameArity) → has name_cmp n (shown_names statements) ≡ true
+    → has name_cmp n (head_names (rules_of statements)) ≡ true

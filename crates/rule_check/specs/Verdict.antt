@@ -1,15 +1,14 @@
 -- When rules are sound, which fault they are refused with, and what is kept of sound rules.
 use Rattle.std.specs.Prelude.{ℕ, ◌≡◌, ◌⊎◌, Some, List, [], ◌++◌, length, map}
-use Rattle.ordered_lists.specs.Canon.{canon}
 use Rattle.ev_term.specs.declared.atoms.NameArity.{NameArity}
 use Rattle.rule_ast.specs.Shaped.{IsShaped}
 use Rattle.rule_ast.specs.Trees.{PlainRule, PlainStatement}
 use Rattle.rule_check.specs.Offenders.{first}
 use Rattle.rule_check.specs.Sound.{rules_of, AreSafe}
-use Rattle.ev_term.specs.EventOrder.{name_cmp}
 use Rattle.rule_ast.specs.Shown.{shown_names}
 use Rattle.rule_check.specs.Names.{head_names, outputs, unknown_shows, AreShownKnown}
-use Rattle.rule_check.specs.Cycles.{AreAcyclic, IsFirstCycle, IsRanking, rank_of, rank_by}
+use Rattle.rule_check.specs.Cycles.{AreAcyclic, IsFirstCycle, IsRanking, rank_of}
+use Rattle.rule_check.specs.Numbers.{first_seen, rank_by}
 use Rattle.rule_check.specs.Faults.{variable_faults}
 use Rattle.rule_check.specs.declared.faults.CheckFault.{CheckFault}
 use Rattle.rule_check.specs.declared.faults.CheckFault.TheVariants.{ShowUnknown, Cycle, Memory}
@@ -28,12 +27,16 @@ show_faults statements = map (λ k. ShowUnknown k) (unknown_shows 1 (head_names 
 abbrev pub early_faults : List PlainStatement → List CheckFault
 early_faults statements = variable_faults 1 (rules_of statements) ++ show_faults statements
 
+-- the fault names the first rule on a cycle
+abbrev pub IsCycleFault : CheckFault → List PlainRule → Type 0
+IsCycleFault fault rules = (k : ℕ) × (fault ≡ Cycle k) × IsFirstCycle rules 1 rules k
+
 -- the fault is the first, or memory ran out
 abbrev pub IsRefusal : CheckFault → List PlainStatement → Type 0
 IsRefusal fault statements =
     (fault ≡ Memory)
     ⊎ ((first (early_faults statements) ≡ Some fault)
-    ⊎ ((early_faults statements ≡ []) × ((k : ℕ) × (fault ≡ Cycle k) × IsFirstCycle (rules_of statements) 1 (rules_of statements) k)))
+    ⊎ ((early_faults statements ≡ []) × IsCycleFault fault (rules_of statements)))
 
 -- these are the ranks of the names that head rules, and no rule is on a cycle
 pub record AreNameRanks (rules : List PlainRule) (heads : List NameArity) (ranks : List ℕ) : Type 0 where
@@ -47,5 +50,5 @@ pub record IsChecked (statements : List PlainStatement) (shown heads : List Name
   pub shaped : IsShaped statements
   pub sound : IsSound statements
   pub shown_is : shown ≡ outputs statements
-  pub heads_are : heads ≡ canon name_cmp (head_names (rules_of statements))
+  pub heads_are : heads ≡ first_seen (head_names (rules_of statements))
   pub ranks_are : AreNameRanks (rules_of statements) heads ranks

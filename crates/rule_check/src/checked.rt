@@ -1,6 +1,5 @@
 // Rules that were checked.
-ghost use Rattle.std.specs.Prelude.{◌≡◌, unwrap_or};
-ghost use Rattle.std.specs.Option.{option_map};
+ghost use Rattle.std.specs.Prelude.{◌≡◌};
 ghost use Rattle.rule_ast.specs.Plain.{plain_rules};
 ghost use Rattle.rule_ast.specs.Shaped.{IsShaped};
 ghost use Rattle.rule_check.specs.Cycles.{IsRanking, rank_of};
@@ -8,7 +7,7 @@ ghost use Rattle.rule_check.specs.Names.{outputs};
 ghost use Rattle.rule_check.specs.Sound.{rules_of};
 ghost use Rattle.rule_check.specs.Verdict.{IsSound, IsChecked};
 
-use crate::names::place_of;
+use crate::numbers::{Numbers, rank_in};
 use ev_term::NameArity;
 use rule_ast::RuleSet;
 use std::marker::Model;
@@ -17,14 +16,12 @@ use std::marker::Model;
 #[derive(Drop)]
 pub struct Checked {
     rules: RuleSet,
-    shown: Option<Vec<NameArity>>,
-    heads: Vec<NameArity>,
+    shown: Vec<NameArity>,
+    heads: Numbers,
     ranks: Vec<u32>,
 }
 
 impl Model for Checked {
-    ghost use Rattle.std.specs.Prelude.{unwrap_or};
-    ghost use Rattle.std.specs.Option.{option_map};
     ghost use Rattle.std.specs.Coded.{codes};
     ghost use Rattle.rule_ast.specs.contracts.statements.RuleSet as rule_set;
     ghost use Rattle.rule_ast.specs.declared.statements.RuleSet.{RuleSet};
@@ -37,17 +34,17 @@ impl Model for Checked {
 
     ghost view = { λ c. c.rules };
 
-    ghost invariant = { λ c. IsChecked (plain_rules c.rules) (unwrap_or (option_map (λ v. v.items) c.shown) c.heads.items) c.heads.items c.ranks.items };
+    ghost invariant = { λ c. IsChecked (plain_rules c.rules) c.shown.items c.heads c.ranks.items };
 }
 
 impl Checked {
     pub(crate) fn new(
         rules: RuleSet,
-        shown: Option<Vec<NameArity>>,
-        heads: Vec<NameArity>,
+        shown: Vec<NameArity>,
+        heads: Numbers,
         ranks: Vec<u32>,
     ) -> Checked
-        requires { IsChecked (plain_rules rules) (unwrap_or (option_map (λ v. v.items) shown) heads.items) heads.items ranks.items }
+        requires { IsChecked (plain_rules rules) shown.items heads ranks.items }
         ensures { result ≡ rules }
     {
         Checked {
@@ -71,10 +68,7 @@ impl Checked {
     pub fn shown(&self) -> &[NameArity]
         ensures { result.now ≡ outputs (plain_rules self.now) }
     {
-        match &self.shown {
-            Some(names) => names,
-            None => &self.heads,
-        }
+        &self.shown
     }
 
     /// 0 for a name that heads no rule, else one more than the greatest rank in the bodies of its rules.
@@ -82,9 +76,6 @@ impl Checked {
         ensures rank { result ≡ rank_of (rules_of (plain_rules self.now)) name.now }
         ensures ranking { IsRanking (rules_of (plain_rules self.now)) (rank_of (rules_of (plain_rules self.now))) }
     {
-        match place_of(&self.heads, &name.name, usize::from(name.arity)) {
-            Some(place) => self.ranks[place],
-            None => 0,
-        }
+        rank_in(&self.heads, &self.ranks, name)
     }
 }

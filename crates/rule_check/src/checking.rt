@@ -1,78 +1,87 @@
 // The check of rules.
-ghost use Rattle.std.specs.Prelude.{◌≡◌, ◌<◌, ◌^◌, ◌⊎◌, ℕ, length, map, unwrap_or, IsOk, IfOk, IfErr};
-ghost use Rattle.std.specs.Option.{option_map};
+ghost use Rattle.std.specs.Prelude.{◌≡◌, ◌<◌, ◌^◌, ◌⊎◌, ℕ, length, map, IsOk, IfOk, IfErr};
 ghost use Rattle.ordered_lists.specs.Canon.{canon};
+ghost use Rattle.ev_term.specs.EventOrder.{name_cmp};
 ghost use Rattle.rule_ast.specs.Plain.{plain_rules, plain_statement};
 ghost use Rattle.rule_ast.specs.Shaped.{IsShaped};
-ghost use Rattle.rule_check.specs.Cycles.{IsFirstCycle};
-ghost use Rattle.rule_check.specs.Faults.{IsVerdict};
-ghost use Rattle.ev_term.specs.EventOrder.{name_cmp};
 ghost use Rattle.rule_ast.specs.Shown.{shown_names};
+ghost use Rattle.rule_check.specs.Faults.{IsVerdict};
+ghost use Rattle.rule_check.specs.Gathered.{rules_at, AreShaped};
 ghost use Rattle.rule_check.specs.Names.{head_names, outputs};
+ghost use Rattle.rule_check.specs.Numbers.{first_seen};
 ghost use Rattle.rule_check.specs.Sound.{rules_of};
-ghost use Rattle.rule_check.specs.Verdict.{IsSound, IsRefusal, AreNameRanks, show_faults};
-ghost use Rattle.rule_check.specs.declared.faults.CheckFault.TheVariants.{Cycle, Memory};
+ghost use Rattle.rule_check.specs.Verdict.{IsSound, IsRefusal, IsCycleFault, AreNameRanks, show_faults};
+ghost use Rattle.rule_check.specs.declared.faults.CheckFault.TheVariants.{Memory};
 
 use crate::checked::Checked;
 use crate::dependencies::{first_cycle, graph_of};
 use crate::faults::CheckFault;
-use crate::gathering::{has_show, head_names, shown_names, unknown_show};
+use crate::gathering::{has_show, push_names, rules_of, shown_names, unknown_show};
 use crate::graph::ranks_of;
-use crate::names::in_order;
+use crate::numbers::{Numbers, heads_of};
 use crate::variables::check_variables;
 use ev_term::NameArity;
-use rule_ast::{RuleSet, Statement};
-use std::alloc::Global;
+use ordered_lists::sort_unique;
+use rule_ast::{Rule, RuleSet, Statement};
+use std::alloc::{AllocError, Global};
 
-// The names that head rules, in order.
-fn heads_in_order(alloc: Global, statements: &[Statement]) -> Result<Vec<NameArity>, CheckFault>
-    requires { IsShaped (map plain_statement statements.now) }
-    ensures heads { IfOk result (λ v. v.items ≡ canon name_cmp (head_names (rules_of (map plain_statement statements.now)))) }
-    ensures memory { IfErr result (λ f. f ≡ Memory) }
+// The names in order, each once.
+#[tactic(auto, using(ev_term::specs::EventOrder::exact_names))]
+fn in_order(names: Vec<NameArity>) -> Result<Vec<NameArity>, AllocError>
+    ensures { IfOk result (λ v. v.items ≡ canon name_cmp names.items) }
 {
-    Ok(in_order(alloc, head_names(alloc, statements)?)?)
+    let mut sorted = names;
+    sort_unique(&mut sorted)?;
+    Ok(sorted)
 }
 
-// The names that are given out, where they are not those that head rules; or the first shown name that heads no rule.
+// The names that are given out: those that are shown, or all that head rules where there is no `show` statement.
+fn given_out(
+    statements: &[Statement],
+    shown: Vec<NameArity>,
+    heads: &Numbers,
+) -> Result<Vec<NameArity>, AllocError>
+    requires shown { shown.items ≡ shown_names (map plain_statement statements.now) }
+    requires heads { heads.now ≡ first_seen (head_names (rules_of (map plain_statement statements.now))) }
+    ensures { IfOk result (λ v. v.items ≡ outputs (map plain_statement statements.now)) }
+{
+    let mut names = shown;
+    if !has_show(statements) {
+        push_names(&mut names, heads.as_slice())?;
+    }
+    Ok(in_order(names)?)
+}
+
+// The names that are given out, or the first shown name that heads no rule.
 fn check_shown(
     alloc: Global,
     statements: &[Statement],
-    heads: &[NameArity],
-) -> Result<Option<Vec<NameArity>>, CheckFault>
+    heads: &Numbers,
+) -> Result<Vec<NameArity>, CheckFault>
     requires few { length (shown_names (map plain_statement statements.now)) < 2 ^ 32 }
-    requires heads { heads.now ≡ canon name_cmp (head_names (rules_of (map plain_statement statements.now))) }
-    ensures shown { IfOk result (λ o. unwrap_or (option_map (λ v. v.items) o) heads.now ≡ outputs (map plain_statement statements.now)) }
+    requires heads { heads.now ≡ first_seen (head_names (rules_of (map plain_statement statements.now))) }
+    ensures shown { IfOk result (λ v. v.items ≡ outputs (map plain_statement statements.now)) }
     ensures verdict { IsVerdict result (show_faults (map plain_statement statements.now)) }
 {
     let shown = shown_names(alloc, statements)?;
     match unknown_show(&shown, heads) {
         Some(number) => Err(CheckFault::ShowUnknown(number)),
-        None => {
-            if has_show(statements) {
-                Ok(Some(in_order(alloc, shown)?))
-            } else {
-                Ok(None)
-            }
-        }
+        None => Ok(given_out(statements, shown, heads)?),
     }
 }
 
 // The ranks of the names that head rules, or the first rule on a cycle.
-fn rank_heads(
-    alloc: Global,
-    statements: &[Statement],
-    heads: &[NameArity],
-) -> Result<Vec<u32>, CheckFault>
-    requires shaped { IsShaped (map plain_statement statements.now) }
-    requires heads { heads.now ≡ canon name_cmp (head_names (rules_of (map plain_statement statements.now))) }
-    ensures ranks { IfOk result (λ v. AreNameRanks (rules_of (map plain_statement statements.now)) heads.now v.items) }
-    ensures cycle { IfErr result (λ f. (f ≡ Memory) ⊎ ((k : ℕ) × (f ≡ Cycle k) × IsFirstCycle (rules_of (map plain_statement statements.now)) 1 (rules_of (map plain_statement statements.now)) k)) }
+fn rank_heads(alloc: Global, rules: &[&Rule], heads: &Numbers) -> Result<Vec<u32>, CheckFault>
+    requires shaped { AreShaped (rules_at rules.now) }
+    requires heads { heads.now ≡ first_seen (head_names (rules_at rules.now)) }
+    ensures ranks { IfOk result (λ v. AreNameRanks (rules_at rules.now) heads.now v.items) }
+    ensures cycle { IfErr result (λ f. (f ≡ Memory) ⊎ IsCycleFault f (rules_at rules.now)) }
 {
-    let graph = graph_of(alloc, statements, heads)?;
+    let graph = graph_of(alloc, rules, heads)?;
     match ranks_of(alloc, &graph)? {
         Some(ranks) => Ok(ranks),
         None => {
-            match first_cycle(alloc, statements, heads, &graph)? {
+            match first_cycle(alloc, rules, heads, &graph)? {
                 Some(number) => Err(CheckFault::Cycle(number)),
                 None => unreachable!(),
             }
@@ -92,20 +101,11 @@ pub fn check(alloc: Global, rules: RuleSet) -> Result<Checked, CheckFault>
     ensures exact { IsSound (plain_rules rules) → IfErr result (λ f. f ≡ Memory) }
 {
     let statements = rules.statements.as_slice();
-    match check_variables(statements) {
-        Ok(()) => {}
-        Err(fault) => return Err(fault),
-    }
-    let heads = match heads_in_order(alloc, statements) {
-        Ok(heads) => heads,
-        Err(fault) => return Err(fault),
-    };
-    let shown = match check_shown(alloc, statements, &heads) {
-        Ok(shown) => shown,
-        Err(fault) => return Err(fault),
-    };
-    match rank_heads(alloc, statements, &heads) {
-        Ok(ranks) => Ok(Checked::new(rules, shown, heads, ranks)),
-        Err(fault) => Err(fault),
-    }
+    let gathered = rules_of(alloc, statements)?;
+    check_variables(&gathered)?;
+    let heads = heads_of(alloc, &gathered)?;
+    let shown = check_shown(alloc, statements, &heads)?;
+    let ranks = rank_heads(alloc, &gathered, &heads)?;
+    drop(gathered);
+    Ok(Checked::new(rules, shown, heads, ranks))
 }

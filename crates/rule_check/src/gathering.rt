@@ -1,45 +1,44 @@
-// The names that head rules and those that are shown, as they stand in the file.
-ghost use Rattle.std.specs.Prelude.{◌≡◌, ◌+◌, ◌<◌, ◌^◌, ◌++◌, length, map, IfOk, OnOk};
-ghost use Rattle.ordered_lists.specs.Canon.{Rising};
+// The rules and the shown names of a file, as they stand in it.
+ghost use Rattle.std.specs.Prelude.{◌≡◌, ◌<◌, ◌^◌, ◌++◌, length, map, IfOk, OnOk};
 ghost use Rattle.rule_ast.specs.Plain.{plain_statement};
-ghost use Rattle.rule_ast.specs.Shaped.{IsShaped};
-ghost use Rattle.ev_term.specs.EventOrder.{name_cmp};
 ghost use Rattle.rule_ast.specs.Shown.{shown_names};
-ghost use Rattle.rule_check.specs.Names.{head_names, has_show, unknown_shows};
+ghost use Rattle.rule_check.specs.Gathered.{rules_at};
+ghost use Rattle.rule_check.specs.Names.{has_show, unknown_shows};
 ghost use Rattle.rule_check.specs.Offenders.{first};
 ghost use Rattle.rule_check.specs.Sound.{rules_of};
 
-use crate::names::Ordered;
+use crate::numbers::Numbers;
 use ev_term::NameArity;
-use rule_ast::Statement;
+use rule_ast::{Rule, Statement};
 use std::alloc::{AllocError, Global};
 
-// The names that head rules.
-pub(crate) fn head_names(
+// The rules of a file.
+pub(crate) fn rules_of<'a>(
     alloc: Global,
-    statements: &[Statement],
-) -> Result<Vec<Ordered>, AllocError>
-    requires { IsShaped (map plain_statement statements.now) }
-    ensures { IfOk result (λ v. v.items ≡ head_names (rules_of (map plain_statement statements.now))) }
+    statements: &'a [Statement],
+) -> Result<Vec<&'a Rule>, AllocError>
+    ensures { IfOk result (λ v. rules_at v.items ≡ rules_of (map plain_statement statements.now)) }
 {
-    let mut names = Vec::new(alloc);
+    let mut rules = Vec::new(alloc);
     for statement in statements {
         match statement {
-            Statement::Rule(rule) => {
-                let arity = rule.head.args.as_slice().len() as u8;
-                names.push(Ordered::new(&rule.head.name, arity)?)?;
-            }
+            Statement::Rule(rule) => rules.push(rule)?,
             Statement::Show(_) => {}
         }
     }
-    Ok(names)
+    Ok(rules)
 }
 
-fn push_names(names: &mut Vec<Ordered>, more: &[NameArity]) -> Result<(), AllocError>
+// Puts equal names, which share their texts, behind others.
+pub(crate) fn push_names(names: &mut Vec<NameArity>, more: &[NameArity]) -> Result<(), AllocError>
     ensures { OnOk result (names.new.items ≡ names.old.items ++ more.now) }
 {
-    for name in more {
-        names.push(Ordered::new(&name.name, name.arity)?)?;
+    for one in more {
+        let name = one.name.share()?;
+        names.push(NameArity {
+            name,
+            arity: one.arity,
+        })?;
     }
     Ok(())
 }
@@ -48,7 +47,7 @@ fn push_names(names: &mut Vec<Ordered>, more: &[NameArity]) -> Result<(), AllocE
 pub(crate) fn shown_names(
     alloc: Global,
     statements: &[Statement],
-) -> Result<Vec<Ordered>, AllocError>
+) -> Result<Vec<NameArity>, AllocError>
     ensures { IfOk result (λ v. v.items ≡ shown_names (map plain_statement statements.now)) }
 {
     let mut names = Vec::new(alloc);
@@ -75,15 +74,14 @@ pub(crate) fn has_show(statements: &[Statement]) -> bool
 }
 
 // The number of the first shown name that isn't among the heads.
-pub(crate) fn unknown_show(shown: &[Ordered], heads: &[NameArity]) -> Option<u32>
+pub(crate) fn unknown_show(shown: &[NameArity], heads: &Numbers) -> Option<u32>
     requires few { length shown.now < 2 ^ 32 }
-    requires rising { Rising name_cmp heads.now }
     ensures { result ≡ first (unknown_shows 1 heads.now shown.now) }
 {
     let mut number: u32 = 0;
     for name in shown {
         number += 1;
-        if !name.is_among(heads) {
+        if !heads.has(name) {
             return Some(number);
         }
     }

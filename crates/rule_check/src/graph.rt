@@ -1,5 +1,5 @@
 // Graphs of nodes named by number, and ranks above those of their targets.
-ghost use Rattle.std.specs.Prelude.{◌≡◌, ◌<◌, ◌≤◌, ◌++◌, [], true, false, length, map, OnOk, IfOk};
+ghost use Rattle.std.specs.Prelude.{◌≡◌, ◌<◌, ◌^◌, ◌++◌, [], true, false, length, map, OnOk, IfOk};
 ghost use Rattle.std.specs.Option.{option_map};
 ghost use Rattle.rule_check.specs.Graphs.{IsGraph, AreRanked, OpenLead, HasCycle, IsVisit, AreRanksOf, RankedBelow, rank_of};
 
@@ -58,7 +58,7 @@ fn visit(graph: &[Targets], node: usize, marks: &mut [Mark]) -> Option<u32>
     requires in_range { node < length graph.now }
     requires sized { length marks.old ≡ length graph.now }
     requires graph { IsGraph graph.now }
-    requires few { length graph.now ≤ 1024 }
+    requires few { length graph.now < 2 ^ 32 }
     requires ranked { AreRanked graph.now marks.old }
     requires open { OpenLead graph.now marks.old node }
     ensures { IsVisit result graph.now node marks.old marks.new }
@@ -84,7 +84,7 @@ fn visit(graph: &[Targets], node: usize, marks: &mut [Mark]) -> Option<u32>
 fn visit_all(graph: &[Targets], marks: &mut [Mark]) -> bool
     requires sized { length marks.old ≡ length graph.now }
     requires graph { IsGraph graph.now }
-    requires few { length graph.now ≤ 1024 }
+    requires few { length graph.now < 2 ^ 32 }
     requires fresh { RankedBelow graph.now marks.old 0 }
     ensures ranked { result ≡ true → RankedBelow graph.now marks.new (length graph.now) }
     ensures cycle { result ≡ false → HasCycle graph.now }
@@ -115,7 +115,7 @@ fn ranks_in(alloc: Global, marks: &[Mark]) -> Result<Vec<u32>, AllocError>
 // The ranks of all nodes, or nothing where a node returns to itself.
 pub(crate) fn ranks_of(alloc: Global, graph: &[Targets]) -> Result<Option<Vec<u32>>, AllocError>
     requires graph { IsGraph graph.now }
-    requires few { length graph.now ≤ 1024 }
+    requires few { length graph.now < 2 ^ 32 }
     ensures { IfOk result (λ o. AreRanksOf (option_map (λ v. v.items) o) graph.now) }
 {
     let mut marks = vec![in alloc; Mark::New; graph.len()]?;

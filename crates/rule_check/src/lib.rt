@@ -2,15 +2,14 @@
 //! on itself.
 #![tactic(auto)]
 
-mod bodies;
 mod checked;
 mod checking;
-mod components;
 mod dependencies;
 mod faults;
 mod gathering;
 mod graph;
-mod names;
+mod marking;
+mod numbers;
 mod offenders;
 mod outside;
 mod variables;

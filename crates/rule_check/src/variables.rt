@@ -1,14 +1,14 @@
 // Whether the variables of rules are bound where they are used.
-ghost use Rattle.std.specs.Prelude.{◌≡◌, ◌<◌, true, length, map, IfOk};
-ghost use Rattle.rule_ast.specs.Plain.{plain_rule, plain_statement};
-ghost use Rattle.rule_ast.specs.Shaped.{is_shaped_rule, IsShaped};
+ghost use Rattle.std.specs.Prelude.{◌≡◌, ◌<◌, true, length, IfOk};
+ghost use Rattle.rule_ast.specs.Plain.{plain_rule};
+ghost use Rattle.rule_ast.specs.Shaped.{is_shaped_rule};
 ghost use Rattle.rule_check.specs.Faults.{name_of, rule_faults, variable_faults, IsVerdict};
-ghost use Rattle.rule_check.specs.Sound.{rules_of};
+ghost use Rattle.rule_check.specs.Gathered.{rules_at, AreShaped};
 
 use crate::faults::CheckFault;
 use crate::offenders::{head_offender, not_offender, or_offender, where_offender};
 use ev_term::{Name, Slot};
-use rule_ast::{Rule, Statement};
+use rule_ast::Rule;
 use std::alloc::AllocError;
 
 // What the variable of a slot is called.
@@ -40,22 +40,14 @@ fn check_rule(rule: &Rule, number: u32) -> Result<(), CheckFault>
 }
 
 // The first fault of the rules' variables.
-pub(crate) fn check_variables(statements: &[Statement]) -> Result<(), CheckFault>
-    requires { IsShaped (map plain_statement statements.now) }
-    ensures { IsVerdict result (variable_faults 1 (rules_of (map plain_statement statements.now))) }
+pub(crate) fn check_variables(rules: &[&Rule]) -> Result<(), CheckFault>
+    requires { AreShaped (rules_at rules.now) }
+    ensures { IsVerdict result (variable_faults 1 (rules_at rules.now)) }
 {
     let mut number: u32 = 0;
-    for statement in statements {
-        match statement {
-            Statement::Rule(rule) => {
-                number += 1;
-                match check_rule(rule, number) {
-                    Ok(()) => {}
-                    Err(fault) => return Err(fault),
-                }
-            }
-            Statement::Show(_) => {}
-        }
+    for rule in rules {
+        number += 1;
+        check_rule(rule, number)?;
     }
     Ok(())
 }

@@ -37,7 +37,8 @@ divides x y = not (int_eq y (pos 0)) && is_i64 (int_div x y)
 abbrev pub defined : {X : Type 0} → Bool → X → Option X
 defined so x = cond so (Some x) None
 
--- the exact result, where it is an i64; `int_div` is the quotient rounded toward zero, and `int_rem` what it leaves, which has the sign of the first number
+-- the exact result, where it is an i64; `int_div` is the quotient rounded toward zero, and `int_rem` what it leaves, which has the
+-- sign of the first number
 abbrev pub calculate : Calc → ℤ → ℤ → Option ℤ
 calculate Add x y = defined (is_i64 (x +ℤ y)) (x +ℤ y)
 calculate Sub x y = defined (is_i64 (x -ℤ y)) (x -ℤ y)

@@ -1,51 +1,40 @@
 use Rattle.std.proofs.Common.{arith, length, ◌∙◌, ap, sym, subst}
-use Rattle.ordered_lists.specs.Canon.{has}
-use Rattle.rule_ast.specs.Plain.{plain_rule, plain_statement}
-use Rattle.ev_term.specs.EventOrder.{name_cmp}
-use Rattle.rule_check.specs.Names.{head_name, head_names}
-use Rattle.rule_check.specs.Components.{AreComponents}
+use Rattle.std.proofs.lemmas.Bool.{both_ways}
+use Rattle.rule_ast.specs.Plain.{plain_rule}
+use Rattle.rule_check.specs.Gathered.{rules_at}
 use Rattle.rule_check.specs.Graphs.{IsGraph}
-use Rattle.rule_check.proofs.CleanRules.{few_before, rule_among, a_rule, no_rule, rules_in}
-use Rattle.rule_check.proofs.NameGraph.{head_known, graph_is, graph_length}
+use Rattle.rule_check.proofs.CleanRules.{few_before, one_more, rule_among}
+use Rattle.rule_check.proofs.NameGraph.{graph_is, graph_length}
+use Rattle.rule_check.proofs.Numbering.{heads_are_narrow, heads_have, head_among}
 use Rattle.rule_check.proofs.Cycling.{cycle_at, one_off}
-use Rattle.std.proofs.lemmas.Bool.{true≢false}
 use Rattle.rule_check.proofs.dependencies.first_cycle.Goals as goal
-use Rattle.rule_check.proofs.dependencies.first_cycle.Goals.{in-Rule+in_ok-is_on_cycle-in-Rule+else-branch, in-Show}
 
 pub overflow_add-number : goal.overflow_add-number
-overflow_add-number c = let few = few_before c.args.statements.now c.loop-statement.statement-index c.requires.shaped in let counted = c.loop-statement.invariant.counted in omega (arith, few, counted)
+overflow_add-number c = let few = few_before c.args.rules.now c.loop-rule.rule-index c.loop-rule-test.true c.requires.shaped in let counted = c.loop-rule.invariant.counted in omega (arith, few, counted)
+
+pub is_on_cycle-requires-clause-narrow : goal.is_on_cycle-requires-clause-narrow
+is_on_cycle-requires-clause-narrow c = heads_are_narrow (rules_at c.args.rules.now) c.args.heads.now c.requires.heads c.requires.shaped
 
 pub is_on_cycle-requires-clause-known : goal.is_on_cycle-requires-clause-known
 is_on_cycle-requires-clause-known c =
-    c.requires.known (head_name (plain_rule c.in-Rule.rule))
-    ∙ ap (λ rs. has name_cmp (head_name (plain_rule c.in-Rule.rule)) (head_names rs)) (rule_among c.args.statements.now c.loop-statement.statement-index c.statement-item.result c.in-Rule.rule c.loop-statement-test.true c.statement-item.is c.in-Rule.is)
-    ∙ head_known _ _ (plain_rule c.in-Rule.rule)
+    head_among (rules_at c.args.rules.now) c.args.heads.now c.requires.heads _ _ (plain_rule c.rule-item.result.now)
+    (rule_among c.args.rules.now c.loop-rule.rule-index c.rule-item.result c.loop-rule-test.true c.rule-item.is)
 
-pub components_of-requires : goal.components_of-requires
-components_of-requires c = record { graph = subst IsGraph (sym c.requires.graph) (graph_is c.args.heads.now (rules_in c.args.statements.now)) }
+pub is_on_cycle-requires-clause-graph : goal.is_on_cycle-requires-clause-graph
+is_on_cycle-requires-clause-graph c = subst IsGraph (sym c.requires.graph) (graph_is c.args.heads.now (rules_at c.args.rules.now))
 
 pub is_on_cycle-requires-clause-sized : goal.is_on_cycle-requires-clause-sized
-is_on_cycle-requires-clause-sized c = ap length c.deref.ensures.value ∙ c.in_ok-components.ensures.sized ∙ ap length c.requires.graph ∙ graph_length c.args.heads.now (rules_in c.args.statements.now)
+is_on_cycle-requires-clause-sized c = ap length c.requires.graph ∙ graph_length c.args.heads.now (rules_at c.args.rules.now)
 
 pub returns-then-branch : goal.returns-then-branch
 returns-then-branch c =
-    cycle_at (rules_in c.args.statements.now) _ _ c.loop-statement.number (plain_rule c.in-Rule.rule)
-    (rule_among c.args.statements.now c.loop-statement.statement-index c.statement-item.result c.in-Rule.rule c.loop-statement-test.true c.statement-item.is c.in-Rule.is)
-    c.loop-statement.invariant
-    ((c.in_ok-is_on_cycle-in-Rule.ensures (rules_in c.args.statements.now) _ _
-    (rule_among c.args.statements.now c.loop-statement.statement-index c.statement-item.result c.in-Rule.rule c.loop-statement-test.true c.statement-item.is c.in-Rule.is) c.requires.known
-    (subst (λ g. AreComponents g c.deref.result.now) c.requires.graph (rw c.deref.ensures.value c.in_ok-components.ensures))).0
-    c.if-branch.true)
+    cycle_at (rules_at c.args.rules.now) _ _ c.loop-rule.number (plain_rule c.rule-item.result.now)
+    (rule_among c.args.rules.now c.loop-rule.rule-index c.rule-item.result c.loop-rule-test.true c.rule-item.is)
+    c.loop-rule.invariant
+    ((c.in_ok-is_on_cycle.ensures (rules_at c.args.rules.now) (heads_have (rules_at c.args.rules.now) c.args.heads.now c.requires.heads) c.requires.graph).0 c.if-branch.true)
 
-pub loop-statement-preserved : goal.loop-statement-preserved
-loop-statement-preserved c = elim c.match-statement.branch [
-  | in-Rule+in_ok-is_on_cycle-in-Rule+else-branch w ↦
-      let decides =
-      w.in_ok-is_on_cycle-in-Rule.ensures (rules_in c.args.statements.now) _ _
-      (rule_among c.args.statements.now c.loop-statement.statement-index c.statement-item.result w.in-Rule.rule c.loop-statement-test.true c.statement-item.is w.in-Rule.is) c.requires.known
-      (subst (λ g. AreComponents g w.deref.result.now) c.requires.graph (rw w.deref.ensures.value c.in_ok-components.ensures)) in
-      rw (w.number-is, a_rule c.args.statements.now c.loop-statement.statement-index c.statement-item.result c.loop-statement-test.true c.statement-item.is w.in-Rule.rule w.in-Rule.is)
-      (one_off _ _ _ _ c.loop-statement.invariant (λ h. true≢false (sym (decides.1 h) ∙ w.if-branch.false)))
-  | in-Show w ↦
-      rw (w.number-is, no_rule c.args.statements.now c.loop-statement.statement-index c.statement-item.result c.loop-statement-test.true c.statement-item.is w.in-Show.field-0.items (ap plain_statement w.in-Show.is)) c.loop-statement.invariant
-]
+pub loop-rule-preserved : goal.loop-rule-preserved
+loop-rule-preserved c =
+    let decides = c.in_ok-is_on_cycle.ensures (rules_at c.args.rules.now) (heads_have (rules_at c.args.rules.now) c.args.heads.now c.requires.heads) c.requires.graph in
+    rw (one_more c.args.rules.now c.loop-rule.rule-index c.rule-item.result c.loop-rule-test.true c.rule-item.is)
+    (one_off _ _ _ _ c.loop-rule.invariant (λ h. both_ways _ c.if-branch.false (decides.1 h)))

@@ -1,9 +1,9 @@
 use Rattle.std.proofs.Common.{arith, ◌≡◌, ◌<◌, length, length-set, take, subst, ◌∙◌}
 use Rattle.std.proofs.lemmas.List.{take_all}
-use Rattle.rule_check.specs.Graphs.{targets, is_ranked}
+use Rattle.rule_check.specs.Graphs.{targets}
 use Rattle.rule_check.specs.declared.graph.Mark.{Mark}
 use Rattle.rule_check.proofs.Rows.{row_is, target_leads, take_target}
-use Rattle.rule_check.proofs.Visiting.{visiting_none, visiting_more, visiting_fewer, open_lead, Visiting, top_few, tally_few, visited}
+use Rattle.rule_check.proofs.Visiting.{visiting_none, visiting_more, visiting_fewer, open_lead, Visiting, top_below, visited}
 use Rattle.rule_check.proofs.graph.+visit.Goals as goal
 
 pub loop-target-init : goal.loop-target-init
@@ -46,10 +46,9 @@ loop-target-preserved t c =
 pub overflow_add-marks : goal.overflow_add-marks
 overflow_add-marks t c =
     let within : c.args.node < length c.args.marks.now = omega (arith, c.requires.in_range, c.requires.sized) in
-    let few = top_few _ _ _ within c.in-New.is _ _ _ c.loop-target.invariant in
-    let all = tally_few is_ranked c.loop-target.marks in
     let sized : length c.loop-target.marks ≡ length c.args.graph.now = omega (arith, c.loop-target.auto.marks, length-set {A = Mark}, c.requires.sized) in
-    omega (arith, few, all, sized, c.requires.few)
+    let below = top_below _ _ _ within c.in-New.is _ _ _ (omega (arith, sized, c.requires.sized)) c.loop-target.invariant in
+    omega (arith, below, sized, c.requires.few)
 
 pub overflow_add-result : goal.overflow_add-result
 overflow_add-result t c = overflow_add-marks t c

@@ -1,26 +1,19 @@
-use Rattle.std.proofs.Common.{arith, ◌+◌, ap}
-use Rattle.rule_ast.specs.Plain.{plain_statement}
-use Rattle.rule_check.proofs.CleanRules.{few_before, rule_shaped, verdict_at, clean_rule, clean_show}
+use Rattle.std.proofs.Common.{arith}
+use Rattle.std.proofs.lemmas.Result.{err_from_is_err_and}
+use Rattle.rule_check.proofs.CleanRules.{few_before, one_more, rule_shaped, rule_among, verdict_at, clean_more}
 use Rattle.rule_check.proofs.variables.check_variables.Goals as goal
-use Rattle.rule_check.proofs.variables.check_variables.Goals.{in-Rule+in-Ok, in-Show}
 
 pub overflow_add-number : goal.overflow_add-number
-overflow_add-number c = let few = few_before c.args.statements.now c.loop-statement.statement-index c.requires in let counted = c.loop-statement.invariant.counted in omega (arith, few, counted)
+overflow_add-number c = let few = few_before c.args.rules.now c.loop-rule.rule-index c.loop-rule-test.true c.requires in let counted = c.loop-rule.invariant.counted in omega (arith, few, counted)
 
 pub check_rule-requires : goal.check_rule-requires
-check_rule-requires c = rule_shaped c.args.statements.now c.loop-statement.statement-index c.statement-item.result c.in-Rule.rule c.loop-statement-test.true c.statement-item.is c.in-Rule.is c.requires
+check_rule-requires c = rule_shaped c.args.rules.now c.loop-rule.rule-index c.rule-item.result c.loop-rule-test.true c.rule-item.is c.requires
 
-pub returns-in-Err : goal.returns-in-Err
-returns-in-Err c =
-    verdict_at c.args.statements.now c.loop-statement.statement-index c.statement-item.result c.in-Rule.rule c.in-Err.fault (c.loop-statement.number + 1) c.loop-statement-test.true c.statement-item.is c.in-Rule.is
-    c.loop-statement.invariant.clean (ap (λ n. n + 1) c.loop-statement.invariant.counted) c.in-Err.ensures
+pub loop-rule-preserved : goal.loop-rule-preserved
+loop-rule-preserved c =
+    clean_more _ _ _ _ (one_more c.args.rules.now c.loop-rule.rule-index c.rule-item.result c.loop-rule-test.true c.rule-item.is) c.loop-rule.invariant c.in_ok-check_rule.ensures
 
-pub loop-statement-preserved : goal.loop-statement-preserved
-loop-statement-preserved c = elim c.match-statement.branch [
-  | in-Rule+in-Ok w ↦ rw w.number-is
-      (clean_rule c.args.statements.now c.loop-statement.statement-index c.statement-item.result w.in-Rule.rule c.loop-statement.number c.loop-statement-test.true c.statement-item.is w.in-Rule.is
-      c.loop-statement.invariant w.in-Ok.ensures)
-  | in-Show w ↦ rw w.number-is
-      (clean_show c.args.statements.now c.loop-statement.statement-index c.statement-item.result w.in-Show.field-0.items c.loop-statement.number c.loop-statement-test.true c.statement-item.is
-      (ap plain_statement w.in-Show.is) c.loop-statement.invariant)
-]
+pub returns-in_err-check_rule : goal.returns-in_err-check_rule
+returns-in_err-check_rule c =
+    let p = err_from_is_err_and c.from_residual.result c.from_residual.ensures.1 in
+    rw p.1 (rw p.2 (verdict_at _ _ _ _ _ _ (rule_among c.args.rules.now c.loop-rule.rule-index c.rule-item.result c.loop-rule-test.true c.rule-item.is) c.loop-rule.invariant c.in_err-check_rule.ensures))
