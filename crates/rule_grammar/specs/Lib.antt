@@ -5,4 +5,3 @@ pub mod Values
 pub mod Texts
 pub mod Lists
 pub mod Machine
-pub mod Shown

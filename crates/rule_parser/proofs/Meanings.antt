@@ -1,13 +1,14 @@
 -- What parse says, from what a run over the tokens says.
-use Rattle.std.proofs.Common.{◌≡◌, ℕ, ◌⊎◌, inl, inr, Bool, true, false, List, [], Result, Ok, Err, IfOk, sym, ap, ◌∙◌, subst}
+use Rattle.std.proofs.Common.{◌≡◌, ℕ, ◌≤◌, ◌⊎◌, inl, inr, Bool, true, false, List, [], length, Result, Ok, Err, IfOk, sym, ap, ◌∙◌, subst, arith}
 use Rattle.std.proofs.lemmas.List.{append-nil}
 use Rattle.rule_ast.specs.declared.statements.RuleSet.{RuleSet}
 use Rattle.rule_ast.specs.Trees.{PlainStatement}
 use Rattle.rule_ast.specs.Plain.{plain_rules}
 use Rattle.rule_ast.specs.Shaped.{IsShaped}
+use Rattle.rule_ast.specs.Shown.{shown_names}
 use Rattle.rule_tokens.specs.declared.lexemes.Lexeme.{Lexeme}
 use Rattle.rule_tokens.specs.Lexing.{Lexing}
-use Rattle.rule_tokens.proofs.OneLexing.{same_lexing}
+use Rattle.rule_tokens.proofs.OneLexing.{same_lexing, few_lexemes}
 use Rattle.rule_grammar.specs.declared.faults.Fault.TheVariants as fault
 use Rattle.rule_grammar.specs.Trees.{Statements, Statements.Empty}
 use Rattle.rule_grammar.specs.Machine.{run, State.Between}
@@ -16,7 +17,7 @@ use Rattle.rule_grammar.specs.Tokens.{text}
 use Rattle.rule_grammar.specs.Texts.{Reads, Means}
 use Rattle.rule_grammar.specs.Values.{text_value}
 use Rattle.rule_grammar.proofs.Reports.{one_tree, means, only}
-use Rattle.rule_grammar.proofs.ShapedLaws.{shaped_text}
+use Rattle.rule_grammar.proofs.ShapedLaws.{shaped_text, shown_few}
 use Rattle.rule_parser.specs.declared.faults.ParseFault.{ParseFault}
 use Rattle.rule_parser.specs.declared.faults.ParseFault.TheVariants.{Syntax, Limit, Memory}
 use Rattle.rule_parser.specs.Answers.{Holds, Begins, Wrong, Answers, Gives, Misfits, Parsed}
@@ -92,3 +93,13 @@ gives bytes lexemes places end whole r l p rules h =
 pub shaped : (lexemes : List Lexeme) (places : List ℕ) (end : ℕ) (whole : Bool) (r : Result RuleSet ParseFault) → Parsed lexemes places end whole r → IfOk r (λ rs. IsShaped (plain_rules rs))
 shaped lexemes places end whole (Ok rs) p = let q = reads lexemes p.1.tree p.1.runs in subst IsShaped p.1.says (shaped_text p.1.tree q.within)
 shaped lexemes places end whole (Err e) p = tt
+
+pub few_shown : (bytes : List ℕ) (lexemes : List Lexeme) (places : List ℕ) (end : ℕ) (whole : Bool) (r : Result RuleSet ParseFault) → Lexing bytes 0 lexemes places end whole → Parsed lexemes places end whole r
+    → IfOk r (λ rs. length (shown_names (plain_rules rs)) ≤ length bytes)
+few_shown bytes lexemes places end whole (Ok rs) l p =
+    let few = few_lexemes bytes 0 lexemes places end whole l in
+    let shown = shown_few p.1.tree in
+    let tokens = ap length (reads lexemes p.1.tree p.1.runs).tokens in
+    let says = ap (λ rules. length (shown_names rules)) p.1.says in
+    omega arith
+few_shown bytes lexemes places end whole (Err e) l p = tt

@@ -32,7 +32,7 @@ use Rattle.rule_parser.specs.declared.terms.Kind.TheVariants.{Ground, Operand, A
 
 -- what a ledger has counted
 abbrev pub counted : Ledger → Counted
-counted l = record { parts = l.parts; names = l.names.items }
+counted l = record { parts = l.parts; names = l.names.keys }
 
 -- no limit of a rule is passed
 pub record Fine (g : Counted) : Type 0 where

@@ -1,9 +1,10 @@
 //! The rules of a text.
 
-ghost use Rattle.std.specs.Prelude.{◌≡◌, ℕ, List, IfOk};
+ghost use Rattle.std.specs.Prelude.{◌≡◌, ◌≤◌, ℕ, List, length, IfOk};
 ghost use Rattle.rule_ast.specs.Trees.{PlainStatement};
 ghost use Rattle.rule_ast.specs.Plain.{plain_rules};
 ghost use Rattle.rule_ast.specs.Shaped.{IsShaped};
+ghost use Rattle.rule_ast.specs.Shown.{shown_names};
 ghost use Rattle.rule_tokens.specs.Lexing.{Lexing};
 ghost use Rattle.rule_parser.specs.Answers.{Holds, Answers, Gives, Parsed, place_of};
 
@@ -53,6 +54,7 @@ pub fn parse(alloc: Global, text: &str) -> Result<RuleSet, ParseFault>
     // Nothing that it holds is refused.
     ensures only { (rules : List PlainStatement) → Holds text.now rules → Gives rules result }
     ensures shaped { IfOk result (λ r. IsShaped (plain_rules r)) }
+    ensures few_shown { IfOk result (λ r. length (shown_names (plain_rules r)) ≤ length text.now) }
 {
     match lex(alloc, text) {
         Ok(lexed) => parsed(alloc, &lexed),

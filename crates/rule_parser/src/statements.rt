@@ -1,6 +1,6 @@
 //! Statements of a rule file.
 
-ghost use Rattle.std.specs.Prelude.{◌≡◌, ◌∷◌, ◌≤◌, List};
+ghost use Rattle.std.specs.Prelude.{◌≡◌, ◌∷◌, ◌≤◌, List, IfOk};
 ghost use Rattle.rule_ast.specs.Plain.{plain_rule};
 ghost use Rattle.rule_grammar.specs.Machine.{State.HeadName, State.WantItem, ItemsHead.FirstShown};
 ghost use Rattle.rule_parser.specs.Steps.{StatementAnswer, ItemAnswer, NextAnswer, WholeAnswer, clause_of, show_of, named_state, shown_state};
@@ -11,14 +11,26 @@ use crate::ledger::Ledger;
 use crate::patterns::pattern_at;
 use crate::signs::{Sign, expect, limit, skip, syntax, take_first};
 use ev_term::{Name, NameArity};
+use indexmap::IndexSet;
 use rule_ast::{Rule, Statement};
 use rule_grammar::Which;
 use rule_tokens::Lexeme;
-use std::alloc::Global;
+use std::alloc::{AllocError, Global};
 
 const WIDEST: u64 = 16;
 
 const MOST: usize = 1024;
+
+// The names in the order in which they came.
+fn in_list(alloc: Global, names: IndexSet<Name>) -> Result<Vec<Name>, AllocError>
+    ensures { IfOk result (λ list. list.items ≡ names.keys) }
+{
+    let mut list = Vec::new(alloc);
+    for name in names {
+        list.push(name)?;
+    }
+    Ok(list)
+}
 
 // The rule whose head's name stood before.
 fn rule_at<'a>(
@@ -30,7 +42,7 @@ fn rule_at<'a>(
 {
     let mut ledger = Ledger {
         parts: 0,
-        names: Vec::new(alloc),
+        names: IndexSet::new(alloc),
     };
     let (head, rest) = head_at(alloc, name, tokens, &mut ledger)?;
     let (body, rest) = pattern_at(alloc, rest, 0, &mut ledger)?;
@@ -40,7 +52,7 @@ fn rule_at<'a>(
     let rule = Rule {
         head,
         body,
-        vars: names,
+        vars: in_list(alloc, names)?,
     };
     Ok((rule, rest))
 }
