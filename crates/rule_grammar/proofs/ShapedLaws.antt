@@ -9,8 +9,8 @@ use Rattle.ev_term.specs.declared.terms.Pat.{Pat, out-Pat}
 use Rattle.ev_term.specs.declared.terms.Pat.TheOpen.{Pat-F}
 use Rattle.ev_term.specs.declared.terms.Pat.TheVariants as pat
 use Rattle.ev_term.specs.declared.terms.Pat.TheFolds.{fold_out-Pat, map-Pat}
-use Rattle.rule_tokens.specs.declared.lexemes.Lexeme.{Lexeme}
-use Rattle.rule_tokens.specs.declared.lexemes.Lexeme.TheVariants as t
+use Rattle.rule_lexer.specs.declared.terminals.Terminal.{Terminal}
+use Rattle.rule_lexer.specs.declared.terminals.Terminal.TheVariants as t
 use Rattle.rule_ast.specs.Trees as plain
 use Rattle.rule_ast.specs.Trees.{PlainPattern, PlainStatement}
 use Rattle.rule_ast.specs.Shaped.{parts_pass, passes, is_variable, is_head_argument, is_shaped_cond, is_length, is_shaped_pattern, names_differ, is_shaped_head, is_shaped_rule, is_shown_name, is_shaped_statement, IsShaped}
@@ -68,7 +68,7 @@ sixteen n e = (within_limit 16 n which.TermWidth None e).0
 
 -- ---- terms
 
-abbrev LeafPasses : {W : Type 0} → (ℕ → Bool) → Bool → List (List ℕ) → (W → Lexeme) → (W → Pat) → Type 0
+abbrev LeafPasses : {W : Type 0} → (ℕ → Bool) → Bool → List (List ℕ) → (W → Terminal) → (W → Pat) → Type 0
 LeafPasses {W} f b names spell leaf = (w : W) → TokenKnown names (spell w) → passes f b (leaf w) ≡ true
 
 literal_passes : (f : ℕ → Bool) (b : Bool) (l : Literal) → passes f b (literal_value l) ≡ true
@@ -92,7 +92,7 @@ pub record ListFits (f : ℕ → Bool) (b : Bool) (names : List (List ℕ)) (arg
   pub over : Fits names rest
 
 mutual
-  term_fits : {W : Type 0} (f : ℕ → Bool) (b : Bool) (names : List (List ℕ)) (spell : W → Lexeme) (leaf : W → Pat) → LeafPasses f b names spell leaf
+  term_fits : {W : Type 0} (f : ℕ → Bool) (b : Bool) (names : List (List ℕ)) (spell : W → Terminal) (leaf : W → Pat) → LeafPasses f b names spell leaf
       → (r : Role) (d : ℕ) (a : Term W) (rest : List Marked) → Fits names (term spell r d a rest) → (passes f b (term_value leaf a) ≡ true) × Fits names rest
   term_fits f b names spell leaf k r d (Leaf w) rest h = (k w h.1, h.2)
   term_fits f b names spell leaf k r d (Lone l) rest h = (literal_passes f b l, literal_over names r l rest h)
@@ -100,7 +100,7 @@ mutual
       let args = arguments_fit f b names spell leaf k (d + 1) as' (quiet t.Close rest) h.2.2 in
       (passes-Comp f b name (arguments_value leaf as') ∙ args.each, args.over.2)
 
-  arguments_fit : {W : Type 0} (f : ℕ → Bool) (b : Bool) (names : List (List ℕ)) (spell : W → Lexeme) (leaf : W → Pat) → LeafPasses f b names spell leaf
+  arguments_fit : {W : Type 0} (f : ℕ → Bool) (b : Bool) (names : List (List ℕ)) (spell : W → Terminal) (leaf : W → Pat) → LeafPasses f b names spell leaf
       → (d : ℕ) (as' : Arguments W) (rest : List Marked) → Fits names (arguments spell d as' rest) → ListFits f b names (arguments_value leaf as') (count_of as') rest
   arguments_fit f b names spell leaf k d (First a) rest h =
       let one = term_fits f b names spell leaf k Quiet d a rest h in

@@ -2,8 +2,8 @@
 use Rattle.std.specs.Prelude.{ℕ, ◌+◌, ◌^◌, cond, nat_lt, List, [], ◌∷◌, ◌++◌, length, Option, Some, None}
 use Rattle.std.specs.List.{list_any}
 use Rattle.std.specs.Str.{bytes_eq}
-use Rattle.rule_tokens.specs.declared.lexemes.Lexeme.{Lexeme}
-use Rattle.rule_tokens.specs.declared.lexemes.Lexeme.TheVariants.{Var}
+use Rattle.rule_lexer.specs.declared.terminals.Terminal.{Terminal}
+use Rattle.rule_lexer.specs.declared.terminals.Terminal.TheVariants.{Var}
 use Rattle.rule_grammar.specs.declared.faults.Which.{Which}
 use Rattle.rule_grammar.specs.declared.faults.Which.TheVariants.{Statements, Parts, Depth, Variables, TermDepth, TermWidth, Length}
 
@@ -21,7 +21,7 @@ pub data Role : Type 0 where
 
 -- a token with its role
 abbrev pub Marked : Type 0
-Marked = Role × Lexeme
+Marked = Role × Terminal
 
 -- the parts of a rule so far, and its variables in the order of first occurrence
 pub record Counted : Type 0 where
@@ -35,11 +35,11 @@ nothing_counted = record { parts = 0; names = [] }
 abbrev pub with_name : List (List ℕ) → List ℕ → List (List ℕ)
 with_name names name = cond (list_any (bytes_eq name) names) names (names ++ name ∷ [])
 
-abbrev pub with_token : List (List ℕ) → Lexeme → List (List ℕ)
+abbrev pub with_token : List (List ℕ) → Terminal → List (List ℕ)
 with_token names (Var name) = with_name names name
 with_token names t = names
 
-abbrev pub with_parts : Counted → ℕ → Lexeme → Counted
+abbrev pub with_parts : Counted → ℕ → Terminal → Counted
 with_parts g n t = record { parts = n; names = with_token g.names t }
 
 abbrev pub count : Counted → Marked → Counted

@@ -57,7 +57,7 @@ pub enum TokenKind {
     Mark(Mark),
 }
 
-/// A token and its place: its text is the slice from `from` to `to`.
+/// A token at its place: its lexeme is the slice of the text from `from` to `to`.
 #[derive(Clone, Copy, PartialEq, Eq, Debug)]
 pub struct Token {
     pub kind: TokenKind,

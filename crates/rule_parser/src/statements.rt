@@ -14,7 +14,7 @@ use ev_term::{Name, NameArity};
 use indexmap::IndexSet;
 use rule_ast::{Rule, Statement};
 use rule_grammar::Which;
-use rule_tokens::Lexeme;
+use rule_lexer::Terminal;
 use std::alloc::{AllocError, Global};
 
 const WIDEST: u64 = 16;
@@ -36,8 +36,8 @@ fn in_list(alloc: Global, names: IndexSet<Name>) -> Result<Vec<Name>, AllocError
 fn rule_at<'a>(
     alloc: Global,
     name: &Name,
-    tokens: &'a [Lexeme],
-) -> Result<(Rule, &'a [Lexeme]), Stop>
+    tokens: &'a [Terminal],
+) -> Result<(Rule, &'a [Terminal]), Stop>
     ensures { StatementAnswer clause_of (named_state name.now) tokens.now result }
 {
     let mut ledger = Ledger {
@@ -58,14 +58,14 @@ fn rule_at<'a>(
 }
 
 // A shown name with its number of arguments.
-fn item_at(tokens: &[Lexeme]) -> Result<(NameArity, &[Lexeme]), Stop>
+fn item_at(tokens: &[Terminal]) -> Result<(NameArity, &[Terminal]), Stop>
     ensures { ItemAnswer tokens.now result }
 {
-    let Some((Lexeme::Name(name), rest)) = take_first(tokens) else {
+    let Some((Terminal::Name(name), rest)) = take_first(tokens) else {
         return Err(syntax(tokens));
     };
     let rest = expect(rest, Sign::Slash)?;
-    let Some((Lexeme::Number(n), behind)) = take_first(rest) else {
+    let Some((Terminal::Number(n), behind)) = take_first(rest) else {
         return Err(syntax(rest));
     };
     let arity = n.value();
@@ -78,7 +78,7 @@ fn item_at(tokens: &[Lexeme]) -> Result<(NameArity, &[Lexeme]), Stop>
 }
 
 // The names of a `show`, whose word stood before.
-fn show_at(alloc: Global, tokens: &[Lexeme]) -> Result<(Vec<NameArity>, &[Lexeme]), Stop>
+fn show_at(alloc: Global, tokens: &[Terminal]) -> Result<(Vec<NameArity>, &[Terminal]), Stop>
     ensures { StatementAnswer show_of shown_state tokens.now result }
 {
     let (first, mut rest) = item_at(tokens)?;
@@ -96,23 +96,23 @@ fn show_at(alloc: Global, tokens: &[Lexeme]) -> Result<(Vec<NameArity>, &[Lexeme
 // The statement that begins with a token, behind so many.
 fn statement_at<'a>(
     alloc: Global,
-    tokens: &'a [Lexeme],
-    first: &Lexeme,
-    rest: &'a [Lexeme],
+    tokens: &'a [Terminal],
+    first: &Terminal,
+    rest: &'a [Terminal],
     done: usize,
-) -> Result<(Statement, &'a [Lexeme]), Stop>
+) -> Result<(Statement, &'a [Terminal]), Stop>
     requires { tokens.now ≡ first.now ∷ rest.now }
     ensures { NextAnswer tokens.now done result }
 {
     match first {
-        Lexeme::Name(name) => {
+        Terminal::Name(name) => {
             if done >= MOST {
                 return Err(limit(Which::Statements, tokens));
             }
             let (rule, rest) = rule_at(alloc, name, rest)?;
             Ok((Statement::Rule(rule), rest))
         }
-        Lexeme::Show => {
+        Terminal::Show => {
             if done >= MOST {
                 return Err(limit(Which::Statements, tokens));
             }
@@ -124,7 +124,7 @@ fn statement_at<'a>(
 }
 
 /// The statements that all the tokens are.
-pub fn statements_of(alloc: Global, tokens: &[Lexeme]) -> Result<Vec<Statement>, Stop>
+pub fn statements_of(alloc: Global, tokens: &[Terminal]) -> Result<Vec<Statement>, Stop>
     ensures { WholeAnswer tokens.now result }
 {
     let mut statements = Vec::new(alloc);

@@ -1,6 +1,6 @@
 -- The tokens of a form where a level is wanted: 0 is the loosest, and a bracket stands round what is looser.
 use Rattle.std.specs.Prelude.{ℕ, ◌+◌, cond, nat_lt, List, ◌∷◌}
-use Rattle.rule_tokens.specs.declared.lexemes.Lexeme.TheVariants as t
+use Rattle.rule_lexer.specs.declared.terminals.Terminal.TheVariants as t
 use Rattle.rule_grammar.specs.Marks.{Marked, Role.Nests}
 use Rattle.rule_grammar.specs.Tokens.{quiet, condition, tree}
 use Rattle.rule_writer.specs.Forms.{ConditionForm, ConditionForm.OfUnit, ConditionForm.OfProduct, ConditionForm.OfSum, ConditionForm.OfComparison, ConditionForm.OfNegation, ConditionForm.OfAll, ConditionForm.OfCondition, as_condition}

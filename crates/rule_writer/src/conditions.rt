@@ -1,7 +1,7 @@
 // Conditions.
 ghost use Rattle.std.specs.Prelude.{◌≡◌, ◌+◌, ◌∷◌, [], ◌++◌, ℕ, List, OnOk};
 ghost use Rattle.rule_ast.specs.Plain.{plain_cond};
-ghost use Rattle.rule_tokens.specs.declared.lexemes.Lexeme.TheVariants.{Compare};
+ghost use Rattle.rule_lexer.specs.declared.terminals.Terminal.TheVariants.{Compare};
 ghost use Rattle.rule_grammar.specs.Tokens.{condition};
 ghost use Rattle.rule_writer.specs.Forms.{condition_form, as_condition};
 ghost use Rattle.rule_writer.specs.Spelled.{condition_level, condition_spelled};

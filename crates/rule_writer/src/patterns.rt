@@ -1,7 +1,7 @@
 // Patterns.
 ghost use Rattle.std.specs.Prelude.{◌≡◌, ◌+◌, ◌∷◌, [], ◌++◌, ℕ, List, OnOk};
 ghost use Rattle.rule_ast.specs.Plain.{plain_pattern};
-ghost use Rattle.rule_tokens.specs.declared.lexemes.Lexeme.TheVariants as lexemes;
+ghost use Rattle.rule_lexer.specs.declared.terminals.Terminal.TheVariants as terminals;
 ghost use Rattle.rule_grammar.specs.Tokens.{tree};
 ghost use Rattle.rule_writer.specs.Forms.{pattern_form, as_tree};
 ghost use Rattle.rule_writer.specs.Spelled.{pattern_level, pattern_spelled};
@@ -51,7 +51,7 @@ fn level_of(pattern: &Pattern) -> PatternLevel
 }
 
 fn op_word(op: Op) -> &'static str
-    ensures { result.now ≡ between (lexemes.Op op) }
+    ensures { result.now ≡ between (terminals.Op op) }
 {
     match op {
         Op::Seq => " SEQ ",
