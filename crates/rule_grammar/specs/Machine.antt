@@ -391,9 +391,12 @@ stack (Body ss h) rest = statements ss (heading (number_of ss + 1) h (quiet t.Ar
 stack (InRound h k) rest = stack k (chain_head (depth k) h ((Nests (depth k + 1), t.Open) ∷ rest))
 stack (InNot h k) rest = stack k (chain_head (depth k) h (a_part t.Not ((Nests (depth k + 1), t.Open) ∷ rest)))
 stack (InBefore h i k) rest =
-    stack k (chain_head (depth k) h (a_part t.Not ((Nests (depth k + 1), t.Open) ∷ tree (depth k + 1) i (quiet t.Close ((Nests (depth k + 1), t.Limits) ∷ rest)))))
+    stack k (chain_head (depth k) h (a_part t.Not ((Nests (depth k + 1), t.Open)
+    ∷ tree (depth k + 1) i (quiet t.Close ((Nests (depth k + 1), t.Limits) ∷ rest)))))
 stack (InAfter h i b k) rest =
-    stack k (chain_head (depth k) h (a_part t.Not ((Nests (depth k + 1), t.Open) ∷ tree (depth k + 1) i (quiet t.Close ((Nests (depth k + 1), t.Limits) ∷ tree (depth k + 1) b (quiet t.Comma rest))))))
+    stack k (chain_head (depth k) h (a_part t.Not ((Nests (depth k + 1), t.Open)
+    ∷ tree (depth k + 1) i (quiet t.Close ((Nests (depth k + 1), t.Limits)
+    ∷ tree (depth k + 1) b (quiet t.Comma rest))))))
 
 abbrev mutual
   pub where_head : Where' → List Marked → List Marked
@@ -450,7 +453,8 @@ so_far (WantPart h k) rest = stack k (chain_head (depth k) h rest)
 so_far (AtomName h k name) rest = stack k (chain_head (depth k) h (a_part (t.Name name) rest))
 so_far (InAtom s) rest = list_so_far wanted 1 atom_place s rest
 so_far (WantOpen h k) rest = stack k (chain_head (depth k) h (a_part t.Not rest))
-so_far (WantLimits h i k) rest = stack k (chain_head (depth k) h (a_part t.Not ((Nests (depth k + 1), t.Open) ∷ tree (depth k + 1) i (quiet t.Close rest))))
+so_far (WantLimits h i k) rest =
+    stack k (chain_head (depth k) h (a_part t.Not ((Nests (depth k + 1), t.Open) ∷ tree (depth k + 1) i (quiet t.Close rest))))
 so_far (HavePart c k) rest = stack k (chain (depth k) c rest)
 so_far (HaveRound h r k) rest = stack k (chain_head (depth k) h (round (depth k) r rest))
 so_far (WantExact h r k) rest = stack k (chain_head (depth k) h (round (depth k) r (a_part t.Length rest)))

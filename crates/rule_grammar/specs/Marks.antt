@@ -1,8 +1,11 @@
 -- What a token of a text counts as, and which token passes a limit.
-use Rattle.std.specs.Prelude.{ℕ, ◌+◌, ◌^◌, cond, nat_lt, List, [], ◌∷◌, ◌++◌, length, Option, Some, None}
+use Rattle.std.specs.Prelude.{ℕ, ◌+◌, cond, nat_lt, List, [], ◌∷◌, ◌++◌, length, Option, Some, None}
 use Rattle.std.specs.List.{list_any}
 use Rattle.std.specs.Str.{bytes_eq}
+use Rattle.ev_term.specs.declared.terms.TheConstants.{MOST_ARGUMENTS, MOST_DEPTH, MOST_SLOTS}
+use Rattle.rule_ast.specs.declared.limits.TheConstants.{MOST_STATEMENTS, MOST_TICKS}
 use Rattle.rule_lexer.specs.declared.terminals.Terminal.{Terminal}
+use Rattle.rule_grammar.specs.declared.limits.TheConstants.{MOST_PARTS, MOST_BRACKETS}
 use Rattle.rule_lexer.specs.declared.terminals.Terminal.TheVariants.{Var}
 use Rattle.rule_grammar.specs.declared.faults.Which.{Which}
 use Rattle.rule_grammar.specs.declared.faults.Which.TheVariants.{Statements, Parts, Depth, Variables, TermDepth, TermWidth, Length}
@@ -57,13 +60,13 @@ abbrev pub over : ℕ → ℕ → Which → Option Which → Option Which
 over most n w o = cond (nat_lt most n) (Some w) o
 
 abbrev pub by_role : Role → Option Which
-by_role (Starts n) = over 1024 n Statements None
-by_role (Nests n) = over 32 n Depth None
-by_role (Deepens n) = over 16 n TermDepth None
-by_role (Counts n) = over 16 n TermWidth None
-by_role (HasArity n) = over 16 n TermWidth None
-by_role (Lasts q) = over (2 ^ 62) q Length None
+by_role (Starts n) = over MOST_STATEMENTS n Statements None
+by_role (Nests n) = over MOST_BRACKETS n Depth None
+by_role (Deepens n) = over MOST_DEPTH n TermDepth None
+by_role (Counts n) = over MOST_ARGUMENTS n TermWidth None
+by_role (HasArity n) = over MOST_ARGUMENTS n TermWidth None
+by_role (Lasts q) = over MOST_TICKS q Length None
 by_role r = None
 
 abbrev pub passed : Counted → Role → Option Which
-passed g r = over 256 g.parts Parts (over 64 (length g.names) Variables (by_role r))
+passed g r = over MOST_PARTS g.parts Parts (over MOST_SLOTS (length g.names) Variables (by_role r))

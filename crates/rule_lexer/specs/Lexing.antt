@@ -2,6 +2,9 @@
 use Rattle.std.specs.Prelude.{◌≡◌, ℕ, ◌-◌, ◌^◌, ◌<◌, Bool, true, false, cond, if◌then◌else◌, ◌==◌, List, [], ◌∷◌, length, slice_range}
 use Rattle.ev_term.specs.declared.operators.Op.TheVariants as op
 use Rattle.rule_ast.specs.declared.conditions.Cmp.TheVariants as cmp
+use Rattle.ev_term.specs.Bytes.{tab, feed, backslash}
+use Rattle.rule_lexer.specs.SignBytes.{letter_n, letter_t}
+use Rattle.rule_lexer.specs.declared.tokens.TheConstants.{NUMBER_LIMIT}
 use Rattle.rule_lexer.specs.declared.tokens.TokenKind.{TokenKind}
 use Rattle.rule_lexer.specs.declared.tokens.TokenKind.TheVariants as kinds
 use Rattle.rule_lexer.specs.declared.tokens.Word.{Word}
@@ -14,13 +17,13 @@ use Rattle.rule_lexer.specs.declared.terminals.Terminal.TheVariants as made
 
 -- what a byte behind a backslash stands for
 abbrev pub escaped_byte : ℕ → ℕ
-escaped_byte b = if b == 110 then 10 else (if b == 116 then 9 else b)
+escaped_byte b = if b == letter_n then feed else (if b == letter_t then tab else b)
 
 -- characters of a text with the escapes read; `escaped` says that a backslash stands before them
 abbrev pub unescaped : Bool → List ℕ → List ℕ
 unescaped escaped [] = []
 unescaped true (b ∷ bytes) = escaped_byte b ∷ unescaped false bytes
-unescaped false (b ∷ bytes) = cond (b == 92) (unescaped true bytes) (b ∷ unescaped false bytes)
+unescaped false (b ∷ bytes) = cond (b == backslash) (unescaped true bytes) (b ∷ unescaped false bytes)
 
 -- what a text says: the characters between its quotes
 abbrev pub text_content : List ℕ → List ℕ
@@ -72,7 +75,7 @@ terminal_of kinds.Name bytes = made.Name bytes
 terminal_of kinds.Var bytes = made.Var bytes
 terminal_of (kinds.Word w) bytes = word_terminal w
 terminal_of kinds.Wild bytes = made.Wild
-terminal_of (kinds.Number n) bytes = if n == 2 ^ 63 then made.Huge else made.Number n
+terminal_of (kinds.Number n) bytes = if n == NUMBER_LIMIT then made.Huge else made.Number n
 terminal_of kinds.Text bytes = made.Text (text_content bytes)
 terminal_of (kinds.Mark m) bytes = mark_terminal m
 
@@ -89,4 +92,5 @@ Lexing text at [] [] end true = (first_place text at ≡ length text) × (end �
 Lexing text at [] [] end false = (end ≡ first_place text at) × (end < length text) × NoneFrom text end
 Lexing text at [] (p ∷ ps) end whole = ⊥
 Lexing text at (t ∷ ts) [] end whole = ⊥
-Lexing text at (t ∷ ts) (p ∷ ps) end whole = (to : ℕ) × ((p ≡ first_place text at) × TerminalAt text t p to × Lexing text to ts ps end whole)
+Lexing text at (t ∷ ts) (p ∷ ps) end whole =
+    (to : ℕ) × ((p ≡ first_place text at) × TerminalAt text t p to × Lexing text to ts ps end whole)

@@ -1,3 +1,4 @@
+pub mod SignBytes
 pub mod Sorts
 pub mod Spelling
 pub mod Places

@@ -9,6 +9,9 @@ use Rattle.ev_term.specs.declared.operators.Op.{Op}
 use Rattle.ev_term.specs.declared.operators.Op.TheVariants as op
 use Rattle.rule_ast.specs.declared.conditions.Cmp.{Cmp}
 use Rattle.rule_ast.specs.declared.conditions.Cmp.TheVariants as cmp
+use Rattle.ev_term.specs.Bytes.{tab, feed, space, minus}
+use Rattle.rule_lexer.specs.SignBytes.{equal}
+use Rattle.rule_lexer.specs.declared.tokens.TheConstants.{NUMBER_LIMIT}
 use Rattle.rule_lexer.specs.declared.tokens.TokenKind.{TokenKind}
 use Rattle.rule_lexer.specs.declared.tokens.TokenKind.TheVariants as kinds
 use Rattle.rule_lexer.specs.declared.tokens.Word.{Word}
@@ -45,7 +48,7 @@ kind_of (made.Name word) = kinds.Name
 kind_of (made.Var word) = kinds.Var
 kind_of (made.Text text) = kinds.Text
 kind_of (made.Number n) = kinds.Number n
-kind_of made.Huge = kinds.Number (2 ^ 63)
+kind_of made.Huge = kinds.Number NUMBER_LIMIT
 kind_of made.Wild = kinds.Wild
 kind_of (made.Op o) = kinds.Word (op_word o)
 kind_of made.Or = kinds.Word words.Or
@@ -94,22 +97,22 @@ is_free_word first word = begins first word && (list_all is_word word && is_none
 
 -- a byte that a text may have: no control byte but tab and line feed
 abbrev pub is_text_byte : ℕ → Bool
-is_text_byte b = nat_le 32 b || (b == 9 || b == 10)
+is_text_byte b = nat_le space b || (b == tab || b == feed)
 
 -- what a terminal holds can be written
 abbrev pub is_proper : Terminal → Bool
 is_proper (made.Name word) = is_free_word is_ascii_lowercase word
 is_proper (made.Var word) = is_free_word is_ascii_uppercase word
 is_proper (made.Text text) = list_all is_text_byte text
-is_proper (made.Number n) = nat_lt n (2 ^ 63)
+is_proper (made.Number n) = nat_lt n NUMBER_LIMIT
 is_proper t = true
 
 -- a byte that makes one sign with `<`
 abbrev pub is_less_end : ℕ → Bool
-is_less_end b = b == 61 || b == 45
+is_less_end b = b == equal || b == minus
 
 abbrev pub is_equal_sign : ℕ → Bool
-is_equal_sign b = b == 61
+is_equal_sign b = b == equal
 
 -- what may stand directly behind a sign
 abbrev pub mark_precedes : Mark → List ℕ → Bool
@@ -145,4 +148,6 @@ written (p ∷ ps) = p.before ++ (spelling p.terminal ++ (p.after ++ written ps)
 -- only blanks stand around terminals, each can be written, and what follows it doesn't lengthen it
 abbrev pub Parted : List Piece → Bool
 Parted [] = true
-Parted (p ∷ ps) = list_all is_blank p.before && (is_proper p.terminal && (may_precede p.terminal (p.after ++ written ps) && (list_all is_blank p.after && Parted ps)))
+Parted (p ∷ ps) =
+    list_all is_blank p.before && (is_proper p.terminal
+    && (may_precede p.terminal (p.after ++ written ps) && (list_all is_blank p.after && Parted ps)))

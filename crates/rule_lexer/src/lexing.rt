@@ -1,6 +1,6 @@
 //! All tokens of a text.
 
-ghost use Rattle.std.specs.Prelude.{◌≡◌, ◌<◌, ◌≤◌, ◌-◌, ◌^◌, ℕ, Bool, true, List, [], length, IfOk, IsCharBoundary, slice_range};
+ghost use Rattle.std.specs.Prelude.{◌≡◌, ◌<◌, ◌≤◌, ◌-◌, ℕ, Bool, true, List, [], length, IfOk, IsCharBoundary, slice_range};
 ghost use Rattle.std.specs.List.{list_all};
 ghost use Rattle.rule_lexer.specs.Places.{TokenAt};
 ghost use Rattle.rule_lexer.specs.declared.terminals.Terminal.{Terminal};
@@ -10,7 +10,7 @@ ghost use Rattle.rule_lexer.specs.Writing.{is_proper};
 use crate::scanning::next_token;
 use crate::tables::{mark_terminal, word_terminal};
 use crate::terminals::{Natural, Terminal};
-use crate::tokens::{Token, TokenKind};
+use crate::tokens::{NUMBER_LIMIT, Token, TokenKind};
 use crate::unescaping::unescaped;
 use ev_term::Name;
 use std::alloc::{AllocError, Global};
@@ -28,10 +28,10 @@ pub struct Lexed {
 }
 
 fn number_terminal(value: u64) -> Terminal
-    requires { value ≤ 2 ^ 63 }
+    requires { value ≤ NUMBER_LIMIT }
     ensures { result ≡ terminal_of (TokenKind.Number value) [] }
 {
-    if value == 1 << 63 {
+    if value == NUMBER_LIMIT {
         Terminal::Huge
     } else {
         Terminal::Number(Natural::new(value))
@@ -95,11 +95,14 @@ pub fn lex(alloc: Global, text: &str) -> Result<Lexed, AllocError>
 
 /// A text has its tokens in one way, and no more of them than bytes.
 pub fn one_lexing()
-    ensures same { (text : List ℕ) (at : ℕ) (ts us : List Terminal) (ps qs : List ℕ) (m n : ℕ) (v w : Bool) → Lexing text at ts ps m v → Lexing text at us qs n w → (ts ≡ us) × (ps ≡ qs) × (m ≡ n) × (v ≡ w) }
-    ensures few { (text : List ℕ) (at : ℕ) (ts : List Terminal) (ps : List ℕ) (end : ℕ) (whole : Bool) → Lexing text at ts ps end whole → length ts ≤ length text - at }
+    ensures same { (text : List ℕ) (at : ℕ) (ts us : List Terminal) (ps qs : List ℕ) (m n : ℕ) (v w : Bool)
+        → Lexing text at ts ps m v → Lexing text at us qs n w → (ts ≡ us) × (ps ≡ qs) × (m ≡ n) × (v ≡ w) }
+    ensures few { (text : List ℕ) (at : ℕ) (ts : List Terminal) (ps : List ℕ) (end : ℕ) (whole : Bool)
+        → Lexing text at ts ps end whole → length ts ≤ length text - at }
 {}
 
 /// Whatever is read can be written.
 pub fn terminals_are_proper()
-    ensures { (text : List ℕ) (at : ℕ) (ts : List Terminal) (places : List ℕ) (end : ℕ) (whole : Bool) → Lexing text at ts places end whole → list_all is_proper ts ≡ true }
+    ensures { (text : List ℕ) (at : ℕ) (ts : List Terminal) (places : List ℕ) (end : ℕ) (whole : Bool)
+        → Lexing text at ts places end whole → list_all is_proper ts ≡ true }
 {}

@@ -19,5 +19,5 @@ mod writing;
 pub use lexing::{Lexed, lex, one_lexing, terminals_are_proper};
 pub use scanning::{next_token, one_kind};
 pub use terminals::{Natural, Terminal};
-pub use tokens::{LexFault, LexKind, Mark, Token, TokenKind, Word};
+pub use tokens::{LexFault, LexKind, Mark, NUMBER_LIMIT, Token, TokenKind, Word};
 pub use writing::written_is_read;

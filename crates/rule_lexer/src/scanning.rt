@@ -81,7 +81,8 @@ pub fn next_token(text: &str, at: usize) -> Result<Option<Token>, LexFault>
 /// No bytes are tokens of two kinds before the same bytes, and no place has two longest tokens.
 pub fn one_kind()
     ensures kind { (j k : TokenKind) (bytes rest : List ℕ) → IsToken j bytes rest → IsToken k bytes rest → j ≡ k }
-    ensures token { (j k : TokenKind) (text : List ℕ) (from m n : ℕ) → IsLongest text j from m → IsLongest text k from n → (j ≡ k) × (m ≡ n) }
+    ensures token { (j k : TokenKind) (text : List ℕ) (from m n : ℕ)
+        → IsLongest text j from m → IsLongest text k from n → (j ≡ k) × (m ≡ n) }
 {}
 
 #[cfg(test)]

@@ -1,32 +1,34 @@
 //! Tokens as the grammar of rule files sees them.
 
+use crate::tokens::NUMBER_LIMIT;
 use ev_term::{Name, Op};
 use rule_ast::Cmp;
 use std::marker::Model;
 
-/// A number below 2^63, which contracts see as the number.
+/// A number below the limit, which contracts see as the number.
 #[derive(Clone, Copy, PartialEq, Eq)]
 pub struct Natural {
     value: u64,
 }
 
 impl Model for Natural {
-    ghost use Rattle.std.specs.Prelude.{ℕ, ◌<◌, ◌^◌};
+    ghost use Rattle.std.specs.Prelude.{ℕ, ◌<◌};
+    ghost use Rattle.rule_lexer.specs.declared.tokens.TheConstants.{NUMBER_LIMIT};
 
     ghost Value = { ℕ };
 
     ghost view = { λ n. n.value };
 
-    ghost invariant = { λ n. n.value < 2 ^ 63 };
+    ghost invariant = { λ n. n.value < NUMBER_LIMIT };
 
     ghost inverse = { λ n. record { value = n } };
 }
 
 impl Natural {
-    ghost use Rattle.std.specs.Prelude.{◌≡◌, ◌<◌, ◌^◌};
+    ghost use Rattle.std.specs.Prelude.{◌≡◌, ◌<◌};
 
     pub fn new(value: u64) -> Natural
-        requires { value < 2 ^ 63 }
+        requires { value < NUMBER_LIMIT }
         ensures { result ≡ value }
     {
         Natural { value }
@@ -34,7 +36,7 @@ impl Natural {
 
     pub fn value(self) -> u64
         ensures value { result ≡ self }
-        ensures bound { result < 2 ^ 63 }
+        ensures bound { result < NUMBER_LIMIT }
     {
         self.value
     }
@@ -48,7 +50,7 @@ pub enum Terminal {
     Var(Name),
     Text(Name),
     Number(Natural),
-    /// The number 2^63, which only a minus sign makes a term.
+    /// The greatest number, which only a minus sign makes a term.
     Huge,
     Wild,
     /// One of the eight operators between spans.

@@ -1,5 +1,8 @@
 use thiserror::Error;
 
+/// The greatest value of a number, 2^63, which only a minus sign makes a term.
+pub const NUMBER_LIMIT: u64 = 1 << 63;
+
 /// A reserved word.
 #[derive(Clone, Copy, PartialEq, Eq, Debug)]
 pub enum Word {

@@ -82,7 +82,8 @@ pub record Fits (terminals : List Terminal) (rules : List PlainStatement) : Type
 pub record Misfits (terminals : List Terminal) (places : List ℕ) (end : ℕ) (whole : Bool) (at : ℕ) : Type 0 where
   pub left : ℕ
   pub place : at ≡ place_of places end left
-  pub runs : (run terminals nothing_counted (Between Empty) ≡ Err (fault.Syntax left)) ⊎ ((whole ≡ false) × (left ≡ 0) × (tree : Statements) × (run terminals nothing_counted (Between Empty) ≡ Ok tree))
+  pub runs : (run terminals nothing_counted (Between Empty) ≡ Err (fault.Syntax left))
+      ⊎ ((whole ≡ false) × (left ≡ 0) × (tree : Statements) × (run terminals nothing_counted (Between Empty) ≡ Ok tree))
 
 pub record Passes (terminals : List Terminal) (places : List ℕ) (end : ℕ) (which : Which) (at : ℕ) : Type 0 where
   pub left : ℕ

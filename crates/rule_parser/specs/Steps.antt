@@ -1,7 +1,10 @@
 -- What a function that reads tokens gives, under every context in which they can stand.
-use Rattle.std.specs.Prelude.{◌≡◌, ℕ, ◌+◌, ◌^◌, ◌<◌, ◌≤◌, Bool, true, false, List, [], ◌∷◌, ◌++◌, length, map, Option, Some, None, Result, Ok, Err}
+use Rattle.std.specs.Prelude.{◌≡◌, ℕ, ◌+◌, ◌<◌, ◌≤◌, Bool, true, false, List, [], ◌∷◌, ◌++◌, length, map, Option, Some, None, Result, Ok, Err}
 use Rattle.std.specs.Prelude.{Box}
 use Rattle.std.specs.Borrow.{Bor}
+use Rattle.ev_term.specs.declared.terms.TheConstants.{MOST_ARGUMENTS, MOST_SLOTS}
+use Rattle.rule_ast.specs.declared.limits.TheConstants.{MOST_TICKS}
+use Rattle.rule_grammar.specs.declared.limits.TheConstants.{MOST_PARTS}
 use Rattle.rule_ast.specs.declared.patterns.Pattern.{Pattern}
 use Rattle.ev_term.specs.declared.atoms.PatAtom.{PatAtom}
 use Rattle.ev_term.specs.declared.atoms.NameArity.{NameArity}
@@ -36,8 +39,8 @@ counted l = record { parts = l.parts; names = l.names.keys }
 
 -- no limit of a rule is passed
 pub record Fine (g : Counted) : Type 0 where
-  pub parts : g.parts ≤ 256
-  pub names : length g.names ≤ 64
+  pub parts : g.parts ≤ MOST_PARTS
+  pub names : length g.names ≤ MOST_SLOTS
 
 abbrev pub with_variable : Counted → List ℕ → Counted
 with_variable g name = record { parts = g.parts; names = with_name g.names name }
@@ -73,7 +76,8 @@ abbrev pub Runs : {C T : Type 0} → Level C T → List Terminal → ℕ → Cou
 Runs {C} L ts d g tree g' rest = (c : C) → L.depth c ≡ d → run ts g (L.state c) ≡ resume (L.behind c tree) rest g'
 
 -- a tree with this value was read, and rest is left; names of variables came to the counted ones at their end
-pub record Read {C T V : Type 0} (L : Level C T) (value : List (List ℕ) → T → V) (ts : List Terminal) (d : ℕ) (g g' : Counted) (v : V) (rest : List Terminal) : Type 0 where
+pub record Read {C T V : Type 0} (L : Level C T) (value : List (List ℕ) → T → V) (ts : List Terminal) (d : ℕ)
+    (g g' : Counted) (v : V) (rest : List Terminal) : Type 0 where
   pub tree : T
   pub says : (names : List (List ℕ)) → Extends g'.names names → value names tree ≡ v
   pub grows : Extends g.names g'.names
@@ -83,12 +87,14 @@ pub record Read {C T V : Type 0} (L : Level C T) (value : List (List ℕ) → T 
   pub runs : Runs L ts d g tree g' rest
 
 -- it is read, or the machine stops with this fault under every context
-abbrev pub Answer : {C T V R : Type 0} → Level C T → (List (List ℕ) → T → V) → (R → V) → List Terminal → ℕ → Counted → Counted → Result (R × Bor (List Terminal)) Stop → Type 0
+abbrev pub Answer : {C T V R : Type 0} → Level C T → (List (List ℕ) → T → V) → (R → V) → List Terminal → ℕ → Counted → Counted
+    → Result (R × Bor (List Terminal)) Stop → Type 0
 Answer L value plain ts d g g' (Ok x) = Read L value ts d g g' (plain x.0) x.1.now
 Answer {C} L value plain ts d g g' (Err e) = (c : C) → L.depth c ≡ d → Fails e (run ts g (L.state c))
 
 -- the same, where besides some token doesn't stand behind what was read
-abbrev pub AnswerTo : {C T V R : Type 0} → Level C T → (List (List ℕ) → T → V) → (R → V) → (List Terminal → Type 0) → List Terminal → ℕ → Counted → Counted → Result (R × Bor (List Terminal)) Stop → Type 0
+abbrev pub AnswerTo : {C T V R : Type 0} → Level C T → (List (List ℕ) → T → V) → (R → V) → (List Terminal → Type 0) → List Terminal → ℕ
+    → Counted → Counted → Result (R × Bor (List Terminal)) Stop → Type 0
 AnswerTo L value plain Over ts d g g' (Ok x) = Read L value ts d g g' (plain x.0) x.1.now × Over x.1.now
 AnswerTo {C} L value plain Over ts d g g' (Err e) = (c : C) → L.depth c ≡ d → Fails e (run ts g (L.state c))
 
@@ -175,7 +181,8 @@ pub record ListRead (k : Kind) (ts : List Terminal) (d : ℕ) (g g' : Counted) (
   pub close : closed ≡ t.Close ∷ rest
   pub read : Read (terms_level k) (terms_of k) ts d g g' vs closed
 
-abbrev pub ListAnswer : {Z : Type 0} (k : Kind) → List Terminal → ℕ → Counted → Counted → Result (Vec Pat Z × Bor (List Terminal)) Stop → Type 0
+abbrev pub ListAnswer : {Z : Type 0} (k : Kind) → List Terminal → ℕ → Counted → Counted
+    → Result (Vec Pat Z × Bor (List Terminal)) Stop → Type 0
 ListAnswer k ts d g g' (Ok x) = ListRead k ts d g g' x.0.items x.1.now
 ListAnswer k ts d g g' (Err e) = (n : Nest (Leaves k) (Place k)) → level (base k) n ≡ d → Fails e (run ts g (in_list k (WantTerm n Start)))
 
@@ -252,7 +259,7 @@ LeafAnswer ts x k g g' (Err (stop.Fault f)) = LeafFails ts k x g f
 
 abbrev pub SlotStops : List Terminal → Counted → List ℕ → Stop → Type 0
 SlotStops ts g name stop.Memory = Unit {0}
-SlotStops ts g name (stop.Fault f) = (f ≡ fault.Limit which.Variables (length ts)) × (64 < length (with_name g.names name))
+SlotStops ts g name (stop.Fault f) = (f ≡ fault.Limit which.Variables (length ts)) × (MOST_SLOTS < length (with_name g.names name))
 
 -- Conditions.
 
@@ -269,13 +276,28 @@ abbrev pub product_level : Level SumHead Product
 product_level = record { tokens = product; depth = sum_depth; state = λ h. WantUnit (FirstUnit h); behind = behind_product }
 
 abbrev pub sum_level : Level CompareHead Sum
-sum_level = record { tokens = sum; depth = compare_depth; state = λ c. WantUnit (first_unit c); behind = λ c s x. behind_all_products (c, s) x }
+sum_level = record {
+  tokens = sum;
+  depth = compare_depth;
+  state = λ c. WantUnit (first_unit c);
+  behind = λ c s x. behind_all_products (c, s) x;
+}
 
 abbrev pub comparison_level : Level NotHead Comparison
-comparison_level = record { tokens = comparison; depth = not_depth; state = λ n. WantUnit (first_unit (FirstSum n)); behind = behind_comparison }
+comparison_level = record {
+  tokens = comparison;
+  depth = not_depth;
+  state = λ n. WantUnit (first_unit (FirstSum n));
+  behind = behind_comparison;
+}
 
 abbrev pub negation_level : Level NotHead Negation
-negation_level = record { tokens = negation; depth = not_depth; state = WantNegation; behind = λ h n x. behind_negation (over_negation h n).0 (over_negation h n).1 x }
+negation_level = record {
+  tokens = negation;
+  depth = not_depth;
+  state = WantNegation;
+  behind = λ h n x. behind_negation (over_negation h n).0 (over_negation h n).1 x;
+}
 
 abbrev pub all_level : Level OrHead All
 all_level = record { tokens = all; depth = or_depth; state = λ o. WantNegation (NoBang (FirstNegation o)); behind = behind_all }
@@ -292,10 +314,20 @@ abbrev pub PartPlace : Type 0
 PartPlace = ChainHead × Stack
 
 abbrev pub part_level : Level PartPlace Part
-part_level = record { tokens = part; depth = λ c. depth c.1; state = λ c. WantPart c.0 c.1; behind = λ c p x. behind_chain c.1 (put c.0 p) x }
+part_level = record {
+  tokens = part;
+  depth = λ c. depth c.1;
+  state = λ c. WantPart c.0 c.1;
+  behind = λ c p x. behind_chain c.1 (put c.0 p) x;
+}
 
 abbrev pub round_level : Level PartPlace Round
-round_level = record { tokens = round; depth = λ c. depth c.1; state = λ c. WantPart c.0 c.1; behind = λ c r x. step (HaveRound c.0 r c.1) x }
+round_level = record {
+  tokens = round;
+  depth = λ c. depth c.1;
+  state = λ c. WantPart c.0 c.1;
+  behind = λ c r x. step (HaveRound c.0 r c.1) x;
+}
 
 abbrev pub chain_level : Level Stack Chain
 chain_level = record { tokens = chain; depth = depth; state = WantPart FirstPart; behind = behind_chain }
@@ -311,13 +343,13 @@ LacksNumber xs = Unit {0}
 
 pub record LengthRead (ts : List Terminal) (q : ℕ) (rest : List Terminal) : Type 0 where
   pub tokens : ts ≡ t.Number q ∷ rest
-  pub within : q ≤ 2 ^ 62
+  pub within : q ≤ MOST_TICKS
 
 pub record TooLong (ts : List Terminal) : Type 0 where
   pub q : ℕ
   pub rest : List Terminal
   pub tokens : ts ≡ t.Number q ∷ rest
-  pub over : 2 ^ 62 < q
+  pub over : MOST_TICKS < q
 
 abbrev pub LengthFails : List Terminal → Fault → Type 0
 LengthFails ts (fault.Syntax left) = (left ≡ length ts) × LacksNumber ts
@@ -334,10 +366,20 @@ abbrev pub HeadTermPlace : Type 0
 HeadTermPlace = Statements × List ℕ × TermsHead
 
 abbrev pub head_term_level : Level HeadTermPlace HeadTerm
-head_term_level = record { tokens = λ d a more. head_term a more; depth = λ c. 0; state = λ c. WantHeadTerm c.0 c.1 c.2; behind = λ c a x. behind_head_terms c.0 c.1 (put_head c.2 a) x }
+head_term_level = record {
+  tokens = λ d a more. head_term a more;
+  depth = λ c. 0;
+  state = λ c. WantHeadTerm c.0 c.1 c.2;
+  behind = λ c a x. behind_head_terms c.0 c.1 (put_head c.2 a) x;
+}
 
 abbrev pub head_terms_level : Level (Statements × List ℕ) HeadTerms
-head_terms_level = record { tokens = λ d as' more. head_terms as' more; depth = λ c. 0; state = λ c. WantHeadTerm c.0 c.1 FirstOfHead; behind = λ c as' x. behind_head_terms c.0 c.1 as' x }
+head_terms_level = record {
+  tokens = λ d as' more. head_terms as' more;
+  depth = λ c. 0;
+  state = λ c. WantHeadTerm c.0 c.1 FirstOfHead;
+  behind = λ c as' x. behind_head_terms c.0 c.1 as' x;
+}
 
 -- terms of a head were read, and the bracket behind them
 pub record HeadListRead (ts : List Terminal) (g g' : Counted) (vs : List Pat) (rest : List Terminal) : Type 0 where
@@ -370,7 +412,8 @@ pub record StatementRead (state : Statements → State) (ts : List Terminal) (v 
   pub shorter : length rest < length ts
   pub runs : (ss : Statements) → run ts nothing_counted (state ss) ≡ run rest after (Between (Then ss statement))
 
-abbrev pub StatementAnswer : {R : Type 0} → (R → PlainStatement) → (Statements → State) → List Terminal → Result (R × Bor (List Terminal)) Stop → Type 0
+abbrev pub StatementAnswer : {R : Type 0} → (R → PlainStatement) → (Statements → State) → List Terminal
+    → Result (R × Bor (List Terminal)) Stop → Type 0
 StatementAnswer plain state ts (Ok x) = StatementRead state ts (plain x.0) x.1.now
 StatementAnswer plain state ts (Err e) = (ss : Statements) → Fails e (run ts nothing_counted (state ss))
 
@@ -388,7 +431,7 @@ shown_state ss = WantItem ss FirstShown
 
 -- A shown name was read.
 pub record ItemRead (ts : List Terminal) (v : NameArity) (rest : List Terminal) : Type 0 where
-  pub few : v.arity ≤ 16
+  pub few : v.arity ≤ MOST_ARGUMENTS
   pub tokens : ts ≡ t.Name v.name ∷ t.Slash ∷ t.Number v.arity ∷ rest
 
 abbrev pub ItemAnswer : List Terminal → Result (NameArity × Bor (List Terminal)) Stop → Type 0

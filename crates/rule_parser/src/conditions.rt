@@ -17,11 +17,9 @@ use crate::signs::{
 use crate::terms::{Kind, arguments_at, word_at};
 use ev_term::{Name, Pat, Pats};
 use rule_ast::Cond;
-use rule_grammar::Which;
+use rule_grammar::{MOST_BRACKETS, Which};
 use rule_lexer::Terminal;
 use std::alloc::Global;
-
-const DEEPEST: u8 = 32;
 
 fn begins_word(first: &Terminal) -> bool
     ensures { result ≡ begins_word first.now }
@@ -116,17 +114,17 @@ fn operand_at<'a>(
 fn unit_at<'a>(
     alloc: Global,
     tokens: &'a [Terminal],
-    depth: u8,
+    depth: usize,
     ledger: &mut Ledger,
 ) -> Result<(Cond, &'a [Terminal]), Stop>
-    requires deep { depth ≤ 32 }
+    requires deep { depth ≤ MOST_BRACKETS }
     requires fine { Fine (counted ledger.old) }
     ensures { Answer unit_level unit_value plain_cond tokens.now depth (counted ledger.old) (counted ledger.new) result }
 {
     let Some(inside) = skip(tokens, Sign::Open) else {
         return operand_at(alloc, tokens, ledger);
     };
-    if depth >= DEEPEST {
+    if depth >= MOST_BRACKETS {
         return Err(limit(Which::Depth, tokens));
     }
     let (inner, rest) = condition_at(alloc, inside, depth + 1, ledger)?;
@@ -138,12 +136,13 @@ fn unit_at<'a>(
 fn product_at<'a>(
     alloc: Global,
     tokens: &'a [Terminal],
-    depth: u8,
+    depth: usize,
     ledger: &mut Ledger,
 ) -> Result<(Cond, &'a [Terminal]), Stop>
-    requires deep { depth ≤ 32 }
+    requires deep { depth ≤ MOST_BRACKETS }
     requires fine { Fine (counted ledger.old) }
-    ensures { AnswerTo product_level product_value plain_cond LacksScaling tokens.now depth (counted ledger.old) (counted ledger.new) result }
+    ensures { AnswerTo product_level product_value plain_cond LacksScaling tokens.now depth
+        (counted ledger.old) (counted ledger.new) result }
 {
     let (mut left, mut rest) = unit_at(alloc, tokens, depth, ledger)?;
     while let Some((op, more)) = take_scaling(rest) {
@@ -159,10 +158,10 @@ fn product_at<'a>(
 fn sum_at<'a>(
     alloc: Global,
     tokens: &'a [Terminal],
-    depth: u8,
+    depth: usize,
     ledger: &mut Ledger,
 ) -> Result<(Cond, &'a [Terminal]), Stop>
-    requires deep { depth ≤ 32 }
+    requires deep { depth ≤ MOST_BRACKETS }
     requires fine { Fine (counted ledger.old) }
     ensures { AnswerTo sum_level sum_value plain_cond LacksAdding tokens.now depth (counted ledger.old) (counted ledger.new) result }
 {
@@ -180,10 +179,10 @@ fn sum_at<'a>(
 fn comparison_at<'a>(
     alloc: Global,
     tokens: &'a [Terminal],
-    depth: u8,
+    depth: usize,
     ledger: &mut Ledger,
 ) -> Result<(Cond, &'a [Terminal]), Stop>
-    requires deep { depth ≤ 32 }
+    requires deep { depth ≤ MOST_BRACKETS }
     requires fine { Fine (counted ledger.old) }
     ensures { Answer comparison_level comparison_value plain_cond tokens.now depth (counted ledger.old) (counted ledger.new) result }
 {
@@ -201,10 +200,10 @@ fn comparison_at<'a>(
 fn negation_at<'a>(
     alloc: Global,
     tokens: &'a [Terminal],
-    depth: u8,
+    depth: usize,
     ledger: &mut Ledger,
 ) -> Result<(Cond, &'a [Terminal]), Stop>
-    requires deep { depth ≤ 32 }
+    requires deep { depth ≤ MOST_BRACKETS }
     requires fine { Fine (counted ledger.old) }
     ensures { Answer negation_level negation_value plain_cond tokens.now depth (counted ledger.old) (counted ledger.new) result }
 {
@@ -220,10 +219,10 @@ fn negation_at<'a>(
 fn all_at<'a>(
     alloc: Global,
     tokens: &'a [Terminal],
-    depth: u8,
+    depth: usize,
     ledger: &mut Ledger,
 ) -> Result<(Cond, &'a [Terminal]), Stop>
-    requires deep { depth ≤ 32 }
+    requires deep { depth ≤ MOST_BRACKETS }
     requires fine { Fine (counted ledger.old) }
     ensures { AnswerTo all_level all_value plain_cond (Lacks Both) tokens.now depth (counted ledger.old) (counted ledger.new) result }
 {
@@ -242,12 +241,13 @@ fn all_at<'a>(
 pub fn condition_at<'a>(
     alloc: Global,
     tokens: &'a [Terminal],
-    depth: u8,
+    depth: usize,
     ledger: &mut Ledger,
 ) -> Result<(Cond, &'a [Terminal]), Stop>
-    requires deep { depth ≤ 32 }
+    requires deep { depth ≤ MOST_BRACKETS }
     requires fine { Fine (counted ledger.old) }
-    ensures { AnswerTo condition_level condition_value plain_cond (Lacks Either) tokens.now depth (counted ledger.old) (counted ledger.new) result }
+    ensures { AnswerTo condition_level condition_value plain_cond (Lacks Either) tokens.now depth
+        (counted ledger.old) (counted ledger.new) result }
 {
     let (mut left, mut rest) = all_at(alloc, tokens, depth, ledger)?;
     while let Some(more) = skip(rest, Sign::Either) {

@@ -10,12 +10,10 @@ use crate::faults::Stop;
 use crate::ledger::{Ledger, slot_of};
 use crate::signs::{Sign, expect, limit, skip, syntax, take_first};
 use crate::terms::{Kind, arguments_at, word_at};
-use ev_term::{Name, Pat, PatAtom, Pats};
+use ev_term::{MOST_ARGUMENTS, Name, Pat, PatAtom, Pats};
 use rule_grammar::Which;
 use rule_lexer::Terminal;
 use std::alloc::Global;
-
-const WIDEST: usize = 16;
 
 // The term of a head that begins with a name.
 fn named_at<'a>(
@@ -71,7 +69,7 @@ fn terms_at<'a>(
     let mut args = Vec::new(alloc);
     args.push(first)?;
     while let Some(more) = skip(rest, Sign::Comma) {
-        if args.len() >= WIDEST {
+        if args.len() >= MOST_ARGUMENTS {
             return Err(limit(Which::TermWidth, rest));
         }
         let (arg, after) = term_at(alloc, more, ledger)?;

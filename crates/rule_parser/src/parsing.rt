@@ -57,10 +57,8 @@ pub fn parse(alloc: Global, text: &str) -> Result<RuleSet, ParseFault>
     ensures shaped { IfOk result (λ r. IsShaped (plain_rules r)) }
     ensures few_shown { IfOk result (λ r. length (shown_names (plain_rules r)) ≤ length text.now) }
 {
-    match lex(alloc, text) {
-        Ok(lexed) => parsed(alloc, &lexed),
-        Err(_) => Err(ParseFault::Memory),
-    }
+    let lexed = lex(alloc, text)?;
+    parsed(alloc, &lexed)
 }
 
 /// No text holds two lists of rules.

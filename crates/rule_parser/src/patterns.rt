@@ -16,14 +16,10 @@ use crate::signs::{
 };
 use crate::terms::{Kind, arguments_at};
 use ev_term::{Name, PatAtom, Pats};
-use rule_ast::Pattern;
-use rule_grammar::Which;
+use rule_ast::{MOST_TICKS, Pattern};
+use rule_grammar::{MOST_BRACKETS, Which};
 use rule_lexer::Terminal;
 use std::alloc::{AllocError, Global};
-
-const DEEPEST: u8 = 32;
-
-const LONGEST: u64 = 1 << 62;
 
 // The atom that begins with a name.
 fn atom_at<'a>(
@@ -62,7 +58,7 @@ fn length_at(tokens: &[Terminal]) -> Result<(u64, &[Terminal]), Stop>
         return Err(syntax(tokens));
     };
     let ticks = n.value();
-    if ticks > LONGEST {
+    if ticks > MOST_TICKS {
         return Err(limit(Which::Length, tokens));
     }
     Ok((ticks, rest))
@@ -104,17 +100,17 @@ fn without_at<'a>(
     alloc: Global,
     tokens: &'a [Terminal],
     rest: &'a [Terminal],
-    depth: u8,
+    depth: usize,
     ledger: &mut Ledger,
 ) -> Result<(Box<Pattern>, &'a [Terminal]), Stop>
     requires first { tokens.now ≡ made.Not ∷ rest.now }
-    requires deep { depth ≤ 32 }
+    requires deep { depth ≤ MOST_BRACKETS }
     requires fine { Fine (counted ledger.old) }
     ensures { Answer part_level part_value boxed_pattern tokens.now depth (counted ledger.old) (counted ledger.new) result }
 {
     add_part(ledger, tokens)?;
     let inside = expect(rest, Sign::Open)?;
-    if depth >= DEEPEST {
+    if depth >= MOST_BRACKETS {
         return Err(limit(Which::Depth, rest));
     }
     let (inner, rest) = pattern_at(alloc, inside, depth + 1, ledger)?;
@@ -138,15 +134,15 @@ fn bracketed_at<'a>(
     alloc: Global,
     tokens: &'a [Terminal],
     inside: &'a [Terminal],
-    depth: u8,
+    depth: usize,
     ledger: &mut Ledger,
 ) -> Result<(Box<Pattern>, &'a [Terminal]), Stop>
     requires first { tokens.now ≡ made.Open ∷ inside.now }
-    requires deep { depth ≤ 32 }
+    requires deep { depth ≤ MOST_BRACKETS }
     requires fine { Fine (counted ledger.old) }
     ensures { Answer round_level round_value boxed_pattern tokens.now depth (counted ledger.old) (counted ledger.new) result }
 {
-    if depth >= DEEPEST {
+    if depth >= MOST_BRACKETS {
         return Err(limit(Which::Depth, tokens));
     }
     let (inner, rest) = pattern_at(alloc, inside, depth + 1, ledger)?;
@@ -160,11 +156,11 @@ fn round_at<'a>(
     alloc: Global,
     tokens: &'a [Terminal],
     inside: &'a [Terminal],
-    depth: u8,
+    depth: usize,
     ledger: &mut Ledger,
 ) -> Result<(Box<Pattern>, &'a [Terminal]), Stop>
     requires first { tokens.now ≡ made.Open ∷ inside.now }
-    requires deep { depth ≤ 32 }
+    requires deep { depth ≤ MOST_BRACKETS }
     requires fine { Fine (counted ledger.old) }
     ensures { Answer part_level part_value boxed_pattern tokens.now depth (counted ledger.old) (counted ledger.new) result }
 {
@@ -182,10 +178,10 @@ fn round_at<'a>(
 fn part_at<'a>(
     alloc: Global,
     tokens: &'a [Terminal],
-    depth: u8,
+    depth: usize,
     ledger: &mut Ledger,
 ) -> Result<(Box<Pattern>, &'a [Terminal]), Stop>
-    requires deep { depth ≤ 32 }
+    requires deep { depth ≤ MOST_BRACKETS }
     requires fine { Fine (counted ledger.old) }
     ensures { Answer part_level part_value boxed_pattern tokens.now depth (counted ledger.old) (counted ledger.new) result }
 {
@@ -204,10 +200,10 @@ fn part_at<'a>(
 fn chain_at<'a>(
     alloc: Global,
     tokens: &'a [Terminal],
-    depth: u8,
+    depth: usize,
     ledger: &mut Ledger,
 ) -> Result<(Box<Pattern>, &'a [Terminal]), Stop>
-    requires deep { depth ≤ 32 }
+    requires deep { depth ≤ MOST_BRACKETS }
     requires fine { Fine (counted ledger.old) }
     ensures { AnswerTo chain_level chain_value boxed_pattern LacksJoint tokens.now depth (counted ledger.old) (counted ledger.new) result }
 {
@@ -226,10 +222,10 @@ fn chain_at<'a>(
 pub fn pattern_at<'a>(
     alloc: Global,
     tokens: &'a [Terminal],
-    depth: u8,
+    depth: usize,
     ledger: &mut Ledger,
 ) -> Result<(Box<Pattern>, &'a [Terminal]), Stop>
-    requires deep { depth ≤ 32 }
+    requires deep { depth ≤ MOST_BRACKETS }
     requires fine { Fine (counted ledger.old) }
     ensures { AnswerTo tree_level tree_value boxed_pattern (Lacks Where) tokens.now depth (counted ledger.old) (counted ledger.new) result }
 {

@@ -10,16 +10,12 @@ use crate::heads::head_at;
 use crate::ledger::Ledger;
 use crate::patterns::pattern_at;
 use crate::signs::{Sign, expect, limit, skip, syntax, take_first};
-use ev_term::{Name, NameArity};
+use ev_term::{MOST_ARGUMENTS, Name, NameArity};
 use indexmap::IndexSet;
-use rule_ast::{Rule, Statement};
+use rule_ast::{MOST_STATEMENTS, Rule, Statement};
 use rule_grammar::Which;
 use rule_lexer::Terminal;
 use std::alloc::{AllocError, Global};
-
-const WIDEST: u64 = 16;
-
-const MOST: usize = 1024;
 
 // The names in the order in which they came.
 fn in_list(alloc: Global, names: IndexSet<Name>) -> Result<Vec<Name>, AllocError>
@@ -69,7 +65,7 @@ fn item_at(tokens: &[Terminal]) -> Result<(NameArity, &[Terminal]), Stop>
         return Err(syntax(rest));
     };
     let arity = n.value();
-    if arity > WIDEST {
+    if arity > MOST_ARGUMENTS as u64 {
         return Err(limit(Which::TermWidth, rest));
     }
     let name = name.share()?;
@@ -106,14 +102,14 @@ fn statement_at<'a>(
 {
     match first {
         Terminal::Name(name) => {
-            if done >= MOST {
+            if done >= MOST_STATEMENTS {
                 return Err(limit(Which::Statements, tokens));
             }
             let (rule, rest) = rule_at(alloc, name, rest)?;
             Ok((Statement::Rule(rule), rest))
         }
         Terminal::Show => {
-            if done >= MOST {
+            if done >= MOST_STATEMENTS {
                 return Err(limit(Which::Statements, tokens));
             }
             let (names, rest) = show_at(alloc, rest)?;

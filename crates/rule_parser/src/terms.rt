@@ -8,14 +8,10 @@ ghost use Rattle.rule_parser.specs.Steps.{counted, Fine, same, Answer, ListAnswe
 use crate::faults::Stop;
 use crate::ledger::{Ledger, slot_of};
 use crate::signs::{Sign, expect, limit, skip, syntax, take_first};
-use ev_term::{Name, Pat, Pats};
+use ev_term::{MOST_ARGUMENTS, MOST_DEPTH, Name, Pat, Pats};
 use rule_grammar::Which;
 use rule_lexer::Terminal;
 use std::alloc::Global;
-
-const DEEPEST: u8 = 16;
-
-const WIDEST: usize = 16;
 
 /// What may stand for a term: nothing, a variable, or a variable or `_`.
 #[derive(Clone, Copy, PartialEq, Eq)]
@@ -88,18 +84,18 @@ fn named_at<'a>(
     name: &Name,
     rest: &'a [Terminal],
     kind: Kind,
-    level: u8,
+    level: usize,
     ledger: &mut Ledger,
 ) -> Result<(Pat, &'a [Terminal]), Stop>
     requires named { tokens.now ≡ made.Name name.now ∷ rest.now }
-    requires deep { level ≤ 16 }
+    requires deep { level ≤ MOST_DEPTH }
     requires fine { Fine (counted ledger.old) }
     ensures { Answer (term_level kind) (term_of kind) same tokens.now level (counted ledger.old) (counted ledger.new) result }
 {
     let Some(inside) = skip(rest, Sign::Open) else {
         return Ok((Pat::Sym(name.share()?), rest));
     };
-    if level >= DEEPEST {
+    if level >= MOST_DEPTH {
         return Err(limit(Which::TermDepth, rest));
     }
     let (args, rest) = arguments_at(alloc, inside, kind, level + 1, ledger)?;
@@ -112,10 +108,10 @@ pub fn term_at<'a>(
     alloc: Global,
     tokens: &'a [Terminal],
     kind: Kind,
-    level: u8,
+    level: usize,
     ledger: &mut Ledger,
 ) -> Result<(Pat, &'a [Terminal]), Stop>
-    requires deep { level ≤ 16 }
+    requires deep { level ≤ MOST_DEPTH }
     requires fine { Fine (counted ledger.old) }
     ensures { Answer (term_level kind) (term_of kind) same tokens.now level (counted ledger.old) (counted ledger.new) result }
 {
@@ -140,10 +136,10 @@ pub fn arguments_at<'a>(
     alloc: Global,
     tokens: &'a [Terminal],
     kind: Kind,
-    level: u8,
+    level: usize,
     ledger: &mut Ledger,
 ) -> Result<(Vec<Pat>, &'a [Terminal]), Stop>
-    requires deep { level ≤ 16 }
+    requires deep { level ≤ MOST_DEPTH }
     requires fine { Fine (counted ledger.old) }
     ensures { ListAnswer kind tokens.now level (counted ledger.old) (counted ledger.new) result }
 {
@@ -151,7 +147,7 @@ pub fn arguments_at<'a>(
     let mut args = Vec::new(alloc);
     args.push(first)?;
     while let Some(more) = skip(rest, Sign::Comma) {
-        if args.len() >= WIDEST {
+        if args.len() >= MOST_ARGUMENTS {
             return Err(limit(Which::TermWidth, rest));
         }
         let (arg, after) = term_at(alloc, more, kind, level, ledger)?;

@@ -2,6 +2,7 @@
 -- of `<-`, of each operator between two operands, of `WHERE` and of `WITHIN`, behind `show`, and behind each comma between shown names;
 -- no other blank stands anywhere.
 use Rattle.std.specs.Prelude.{ℕ, List, [], ◌∷◌, map}
+use Rattle.ev_term.specs.Bytes.{feed, space}
 use Rattle.rule_ast.specs.Trees.{PlainStatement}
 use Rattle.rule_lexer.specs.declared.terminals.Terminal.{Terminal}
 use Rattle.rule_lexer.specs.declared.terminals.Terminal.TheVariants.{Arrow, Show, End}
@@ -15,7 +16,7 @@ abbrev pub ends_with : ℕ → Terminal → Piece
 ends_with blank x = record { before = []; terminal = x; after = blank ∷ [] }
 
 abbrev pub spaced : Terminal → Piece
-spaced x = record { before = 32 ∷ []; terminal = x; after = 32 ∷ [] }
+spaced x = record { before = space ∷ []; terminal = x; after = space ∷ [] }
 
 abbrev pub alone : Terminal → Piece
 alone x = record { before = []; terminal = x; after = [] }
@@ -23,13 +24,13 @@ alone x = record { before = []; terminal = x; after = [] }
 -- a token that stands between no two operands
 abbrev pub by_token : Terminal → Piece
 by_token Arrow = spaced Arrow
-by_token Show = ends_with 32 Show
-by_token End = ends_with 10 End
+by_token Show = ends_with space Show
+by_token End = ends_with feed End
 by_token x = alone x
 
 abbrev pub piece_of : Marked → Piece
 piece_of (Binary, x) = spaced x
-piece_of (Lists, x) = ends_with 32 x
+piece_of (Lists, x) = ends_with space x
 piece_of (r, x) = by_token x
 
 -- the text of tokens

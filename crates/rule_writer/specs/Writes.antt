@@ -1,6 +1,7 @@
 -- What writing tokens appends to a text.
 use Rattle.std.specs.Prelude.{ℕ, ◌≡◌, Bool, true, false, None, List, [], ◌∷◌, ◌++◌, map}
 use Rattle.std.specs.List.{fold}
+use Rattle.ev_term.specs.Bytes.{space}
 use Rattle.ev_term.specs.declared.terms.Pat.{Pat}
 use Rattle.rule_lexer.specs.declared.terminals.Terminal.{Terminal}
 use Rattle.ev_term.specs.declared.atoms.NameArity.{NameArity}
@@ -72,7 +73,8 @@ more_head_terms first others = fold NextTerm (FirstTerm first) others
 
 abbrev pub all_head_terms : List (List ℕ) → List Pat → List Marked → List Marked
 all_head_terms names [] rest = rest
-all_head_terms names (first ∷ others) rest = head_terms (more_head_terms (head_term_form names first) (map (head_term_form names) others)) rest
+all_head_terms names (first ∷ others) rest =
+    head_terms (more_head_terms (head_term_form names first) (map (head_term_form names) others)) rest
 
 -- bytes, where they are wanted
 abbrev pub when : Bool → List ℕ → List ℕ
@@ -81,7 +83,7 @@ when false bytes = []
 
 -- a token with a blank on each side
 abbrev pub between : Terminal → List ℕ
-between x = 32 ∷ (spelling x ++ 32 ∷ [])
+between x = space ∷ (spelling x ++ space ∷ [])
 
 -- how tightly a condition binds at each level, and a pattern
 abbrev pub condition_rank : ConditionLevel → ℕ

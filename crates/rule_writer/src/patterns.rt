@@ -73,7 +73,9 @@ pub(crate) fn write_pattern(
     pattern: &Pattern,
     level: PatternLevel,
 ) -> Result<(), AllocError>
-    ensures { OnOk result ((d : ℕ) → Appends out.old.items out.new.items (pattern_spelled (pattern_rank level) d (pattern_form names.now (plain_pattern pattern.now)))) }
+    ensures { OnOk result ((d : ℕ)
+        → Appends out.old.items out.new.items
+        (pattern_spelled (pattern_rank level) d (pattern_form names.now (plain_pattern pattern.now)))) }
 {
     let bracketed = level_of(pattern).rank() < level.rank();
     write_if(out, bracketed, "(")?;
@@ -85,7 +87,8 @@ pub(crate) fn write_pattern(
 // A pattern without a bracket round it.
 #[cycle(pattern)]
 fn write_bare(out: &mut Vec<u8>, names: &[Name], pattern: &Pattern) -> Result<(), AllocError>
-    ensures { OnOk result ((d : ℕ) → Appends out.old.items out.new.items (tree d (as_tree (pattern_form names.now (plain_pattern pattern.now))))) }
+    ensures { OnOk result ((d : ℕ)
+        → Appends out.old.items out.new.items (tree d (as_tree (pattern_form names.now (plain_pattern pattern.now))))) }
 {
     match pattern {
         Pattern::Atom(atom) => {
