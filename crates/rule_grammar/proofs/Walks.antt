@@ -203,9 +203,6 @@ sum_over c s t.Plus h = absurd h
 sum_over c s t.Minus h = absurd h
 sum_over c s x h = refl
 
-compare_over : (n : NotHead) (s : Sum) (cmp : Cmp) → behind_all_products (FirstSum n, s) (t.Compare cmp) ≡ to Binary (WantUnit (first_unit (SecondSum n s cmp)))
-compare_over n s cmp = refl
-
 product_over : (h : SumHead) (p : Product) (x : Terminal) → FollowsSum x → behind_product h p x ≡ behind_all_products (over_product h p) x
 product_over h p t.Star e = absurd e
 product_over h p t.Slash e = absurd e

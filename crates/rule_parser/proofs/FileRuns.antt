@@ -262,11 +262,6 @@ items_more {ts} {r1} {r2} {rest} {vs} {ws} {v} a e i s = record {
       ∙ item_runs i ss (NextShown a.items);
 }
 
-pub items_fail : {ts r1 r2 : List Terminal} {vs : List NameArity} (err : Stop) → ItemsRead ts vs r1 → r1 ≡ t.Comma ∷ r2 → ((ss : Statements) (h : ItemsHead) → Fails err (run r2 nothing_counted (WantItem ss h)))
-    → (ss : Statements) → Fails err (run ts nothing_counted (WantItem ss FirstShown))
-items_fail err a e fails ss =
-    fails_along err (a.runs ss ∙ run_on nothing_counted (HaveItems ss a.items) Lists (WantItem ss (NextShown a.items)) e refl (by_role_alone nothing_counted Lists nothing_fine)) (fails ss (NextShown a.items))
-
 pub show_read : {ts r1 rest : List Terminal} {vs : List NameArity} → ItemsRead ts vs r1 → r1 ≡ t.End ∷ rest → StatementRead shown_state ts (plain.Show vs) rest
 show_read {ts} {r1} {rest} a e = record {
   statement = Shown a.items;
@@ -279,50 +274,6 @@ show_read {ts} {r1} {rest} a e = record {
 -- a statement may begin
 begins : (ss : Statements) (n : ℕ) → number_of ss ≡ n → n < 1024 → passed nothing_counted (Starts (number_of ss + 1)) ≡ None
 begins ss n e h = fits nothing_counted (Starts (number_of ss + 1)) which.Statements 1024 (number_of ss + 1) nothing_fine refl (omega arith)
-
-pub next_rule : {ts r1 rest : List Terminal} {name : List ℕ} {n : ℕ} {v : PlainStatement} → n < 1024 → ts ≡ t.Name name ∷ r1 → StatementRead (named_state name) r1 v rest → NextRead ts n v rest
-next_rule {ts} {r1} {rest} {name} {n} h e s = record {
-  statement = s.statement;
-  after = s.after;
-  says = s.says;
-  shorter = omega (arith, ap length e, s.shorter);
-  runs = λ ss g q. run_on g (Between ss) (Starts (number_of ss + 1)) (HeadName ss name) e refl (begins ss n q h) ∙ s.runs ss;
-}
-
-pub next_show : {ts r1 rest : List Terminal} {n : ℕ} {v : PlainStatement} → n < 1024 → ts ≡ t.Show ∷ r1 → StatementRead shown_state r1 v rest → NextRead ts n v rest
-next_show {ts} {r1} {rest} {n} h e s = record {
-  statement = s.statement;
-  after = s.after;
-  says = s.says;
-  shorter = omega (arith, ap length e, s.shorter);
-  runs = λ ss g q. run_on g (Between ss) (Starts (number_of ss + 1)) (WantItem ss FirstShown) e refl (begins ss n q h) ∙ s.runs ss;
-}
-
-pub next_rule_fails : {ts r1 : List Terminal} {name : List ℕ} {n : ℕ} (err : Stop) → n < 1024 → ts ≡ t.Name name ∷ r1 → ((ss : Statements) → Fails err (run r1 nothing_counted (HeadName ss name)))
-    → (ss : Statements) (g : Counted) → number_of ss ≡ n → Fails err (run ts g (Between ss))
-next_rule_fails {name = name} {n = n} err h e fails ss g q = fails_along err (run_on g (Between ss) (Starts (number_of ss + 1)) (HeadName ss name) e refl (begins ss n q h)) (fails ss)
-
-pub next_show_fails : {ts r1 : List Terminal} {n : ℕ} (err : Stop) → n < 1024 → ts ≡ t.Show ∷ r1 → ((ss : Statements) → Fails err (run r1 nothing_counted (WantItem ss FirstShown)))
-    → (ss : Statements) (g : Counted) → number_of ss ≡ n → Fails err (run ts g (Between ss))
-next_show_fails {n = n} err h e fails ss g q = fails_along err (run_on g (Between ss) (Starts (number_of ss + 1)) (WantItem ss FirstShown) e refl (begins ss n q h)) (fails ss)
-
-pub too_many_rules : {ts r1 : List Terminal} {x : Terminal} {name : List ℕ} {n : ℕ} → 1024 ≤ n → ts ≡ x ∷ r1 → x ≡ t.Name name → (ss : Statements) (g : Counted) → number_of ss ≡ n
-    → run ts g (Between ss) ≡ Err (fault.Limit which.Statements (length ts))
-too_many_rules {ts} {r1} {x} {name} {n} h e v ss g q =
-    run_off g (Between ss) (Starts (number_of ss + 1)) (HeadName ss name) which.Statements (e ∙ ap (λ y. y ∷ r1) v) refl (exceeds nothing_counted (Starts (number_of ss + 1)) which.Statements 1024 (number_of ss + 1) nothing_fine refl (omega arith))
-
-pub too_many_shows : {ts r1 : List Terminal} {x : Terminal} {n : ℕ} → 1024 ≤ n → ts ≡ x ∷ r1 → x ≡ t.Show → (ss : Statements) (g : Counted) → number_of ss ≡ n
-    → run ts g (Between ss) ≡ Err (fault.Limit which.Statements (length ts))
-too_many_shows {ts} {r1} {x} {n} h e v ss g q =
-    run_off g (Between ss) (Starts (number_of ss + 1)) (WantItem ss FirstShown) which.Statements (e ∙ ap (λ y. y ∷ r1) v) refl (exceeds nothing_counted (Starts (number_of ss + 1)) which.Statements 1024 (number_of ss + 1) nothing_fine refl (omega arith))
-
-pub next_stuck : {ts r1 : List Terminal} {x : Terminal} {n : ℕ} → ts ≡ x ∷ r1 → ((name : List ℕ) → ¬ (x ≡ t.Name name)) → ¬ (x ≡ t.Show) → (ss : Statements) (g : Counted) → number_of ss ≡ n → run ts g (Between ss) ≡ Err (fault.Syntax (length ts))
-next_stuck {ts} {r1} {x} e a b ss g q = ap (λ y. run y g (Between ss)) e ∙ at x a b ∙ ap (λ y. Err (fault.Syntax (length y))) (sym e)
-  where
-    at : (x : Terminal) → ((name : List ℕ) → ¬ (x ≡ t.Name name)) → ¬ (x ≡ t.Show) → run (x ∷ r1) g (Between ss) ≡ Err (fault.Syntax (length (x ∷ r1)))
-    at (t.Name name) a b = absurd (a name refl)
-    at t.Show a b = absurd (b refl)
-    at x a b = refl
 
 -- Files.
 
@@ -337,10 +288,3 @@ file_more {ts} {r1} {rest} {vs} {ws} v {n} a m s e = record {
   many = ap (λ k. k + 1) a.many ∙ sym (length-append vs (v ∷ [])) ∙ ap length (sym e);
   runs = a.runs ∙ s.runs a.tree a.after (a.many ∙ sym m);
 }
-
-pub file_fails : {ts r1 : List Terminal} {vs : List declared.Statement} {n : ℕ} (err : Stop) → FileRead ts vs r1 → n ≡ length vs → ((ss : Statements) (g : Counted) → number_of ss ≡ n → Fails err (run r1 g (Between ss)))
-    → Fails err (run ts nothing_counted (Between Empty))
-file_fails err a m fails = fails_along err a.runs (fails a.tree a.after (a.many ∙ sym m))
-
-pub file_whole : {ts rest : List Terminal} {vs : List declared.Statement} → FileRead ts vs rest → rest ≡ [] → WholeRead ts vs
-file_whole a e = record { tree = a.tree; says = a.says; runs = a.runs ∙ ap (λ l. run l a.after (Between a.tree)) e }

@@ -78,9 +78,6 @@ fits g r w most n f e h = by_role_alone g r f ∙ e ∙ under most n w None h
 pub exceeds : (g : Counted) (r : Role) (w : Which) (most n : ℕ) → Fine g → by_role r ≡ over most n w None → most < n → passed g r ≡ Some w
 exceeds g r w most n f e h = by_role_alone g r f ∙ e ∙ beyond most n w None h
 
-pub too_many_parts : (g : Counted) (r : Role) → 256 < g.parts → passed g r ≡ Some which.Parts
-too_many_parts g r h = beyond 256 g.parts which.Parts _ h
-
 pub too_many_names : (g : Counted) (r : Role) → g.parts ≤ 256 → 64 < length g.names → passed g r ≡ Some which.Variables
 too_many_names g r p h = under 256 g.parts which.Parts _ p ∙ beyond 64 (length g.names) which.Variables _ h
 
@@ -240,10 +237,6 @@ pub leaf_fails : (k : Kind) {ts rest : List Terminal} {x : Terminal} {d : ℕ} {
 leaf_fails k {ts} {rest} {x} {d} {g} {e} q w c p =
     list_off k g (WantTerm c.0 c.1) (HaveTerms c.0 (put_term c.1 (Leaf w.leaf))) Quiet which.Variables q (leaf_stays k x w.leaf c.0 c.1 w.reads) w.passes ∙ ap Err (sym w.place)
 
--- no term begins so
-IsName : Terminal → Type 0
-IsName x = (name : List ℕ) × (x ≡ t.Name name)
-
 no_leaf : (k : Kind) (x : Terminal) (xs : List Terminal) (n : Nest (Leaves k) (Place k)) (b : Before (Leaves k)) → LacksWord (x ∷ xs) → ((name : List ℕ) → ¬ (x ≡ t.Name name)) → leaf_read k x ≡ None
     → list_step (leaf_read k) (base k) (WantTerm n b) x ≡ Stuck
 no_leaf k (t.Number m) xs n b h q e = absurd h
@@ -255,9 +248,6 @@ no_leaf k x xs n b h q e = ap (have_leaf n b) e
 pub term_stuck : (k : Kind) {ts rest : List Terminal} {x : Terminal} {d : ℕ} (g : Counted) → ts ≡ x ∷ rest → LacksWord ts → ((name : List ℕ) → ¬ (x ≡ t.Name name)) → leaf_read k x ≡ None
     → (c : Nest (Leaves k) (Place k) × Before (Leaves k)) → level (base k) c.0 ≡ d → run ts g (in_list k (WantTerm c.0 c.1)) ≡ Err (fault.Syntax (length ts))
 term_stuck k {ts} {rest} {x} {d} g e h q r c p = list_none k g (WantTerm c.0 c.1) e (no_leaf k x rest c.0 c.1 (subst LacksWord e h) q r)
-
-pub term_ended : (k : Kind) {ts : List Terminal} {d : ℕ} (g : Counted) → ts ≡ [] → (c : Nest (Leaves k) (Place k) × Before (Leaves k)) → level (base k) c.0 ≡ d → run ts g (in_list k (WantTerm c.0 c.1)) ≡ Err (fault.Syntax (length ts))
-term_ended k {ts} {d} g e c p = ap (λ l. run l g (in_list k (WantTerm c.0 c.1))) e ∙ list_ended k (WantTerm c.0 c.1) g ∙ ap (λ l. Err (fault.Syntax (length l))) (sym e)
 
 -- A name, and a compound.
 
@@ -361,9 +351,6 @@ terms_fail k {ts} {r1} {r2} {d} {g} {g1} {vs} e a h q fails n p =
     ∙ resume_on g1 (λ x. turn_of k (behind_terms n a.tree x)) (Counts (count_of a.tree + 1)) (in_list k (WantTerm n (Behind a.tree))) q (comma_on k n a.tree)
     (fits g1 (Counts (count_of a.tree + 1)) which.TermWidth 16 (count_of a.tree + 1) a.fine refl (let c = counted_terms k a in omega arith)))
     (fails (n, Behind a.tree) p)
-
-pub terms_closed : (k : Kind) {ts r1 rest : List Terminal} {d : ℕ} {g g' : Counted} {vs : List Pat} → Read (terms_level k) (terms_of k) ts d g g' vs r1 → r1 ≡ t.Close ∷ rest → ListRead k ts d g g' vs rest
-terms_closed k {r1 = r1} a e = record { closed = r1; close = e; read = a }
 
 neither : (k : Kind) (n : Nest (Leaves k) (Place k)) (as' : Arguments (Leaves k)) (x : Terminal) (xs : List Terminal) → Lacks sign.Comma (x ∷ xs) → Lacks sign.Close (x ∷ xs) → behind_terms n as' x ≡ Stuck
 neither k n as' t.Comma xs c d = absurd (c refl)

@@ -127,9 +127,6 @@ number_step m d s k h e = e ∙ ap (λ c. guard c (InNumber m (OneDigit d) k)) (
 pub first_run : (bytes : List ℕ) (at d : ℕ) (k : Stack) → SignAt bytes at (Digit d) → run (drop at bytes) (Want k) ≡ run (drop (at + 1) bytes) (InNumber false (OneDigit d) k)
 first_run bytes at d k h = run_step bytes at (Digit d) (Want k) (InNumber false (OneDigit d) k) h (number_step false d (Want k) k h.digit refl)
 
-pub negative_run : (bytes : List ℕ) (at d : ℕ) (k : Stack) → SignAt bytes at (Digit d) → run (drop at bytes) (Negative k) ≡ run (drop (at + 1) bytes) (InNumber true (OneDigit d) k)
-negative_run bytes at d k h = run_step bytes at (Digit d) (Negative k) (InNumber true (OneDigit d) k) h (number_step true d (Negative k) k h.digit refl)
-
 pub number_tree : (bytes : List ℕ) (at depth d end : ℕ) (v : Term) → SignAt bytes at (Digit d) → NumberRead bytes (at + 1) false d v end → TreeRead bytes at depth v end
 number_tree bytes at depth d end v h g = record {
   tree = Number false g.digits;
@@ -146,15 +143,6 @@ negative_tree bytes at depth end v h g = record {
   ordered = omega (arith, g.ordered);
   inside = g.inside;
   reads = λ k q. run_step bytes at Minus (Want k) (Negative k) h refl ∙ g.reads k;
-}
-
-pub negative_read : (bytes : List ℕ) (at d end : ℕ) (v : Term) → SignAt bytes at (Digit d) → NumberRead bytes (at + 1) true d v end → NegativeRead bytes at v end
-negative_read bytes at d end v h g = record {
-  digits = g.digits;
-  says = g.says;
-  ordered = omega (arith, g.ordered);
-  inside = g.inside;
-  reads = λ k. negative_run bytes at d k h ∙ g.reads k;
 }
 
 -- Arguments.
@@ -232,10 +220,6 @@ args_start bytes at depth h d = record {
   ordered = omega arith;
   reads = λ w k q. run_step bytes at Open (InWord w k) (Want (First w NoBlank k)) h (ap (λ c. guard c (Want (First w NoBlank k))) (room MOST_DEPTH (opened k) (omega (arith, q, d))));
 }
-
-pub too_deep : (bytes : List ℕ) (at depth : ℕ) → SignAt bytes at Open → 16 ≤ depth → (w : Word) (k : Stack) → opened k ≡ depth → (at ≤ length bytes) × (run (drop at bytes) (InWord w k) ≡ Stops Deep (drop at bytes))
-too_deep bytes at depth h d w k q =
-    (omega (arith, h.inside), run_limit bytes at Open (InWord w k) (Want (First w NoBlank k)) h (ap (λ c. guard c (Want (First w NoBlank k))) (no_room MOST_DEPTH (opened k) (omega (arith, q, d)))) refl)
 
 pub values-append : (xs : Args) (rest : List Term) → values xs rest ≡ values xs [] ++ rest
 values-append (OneArg b t c) rest = refl
@@ -344,7 +328,3 @@ digit_tree bytes at depth d (Err fault) h g = λ k q. subst (Fails bytes fault) 
 pub minus_tree : (bytes : List ℕ) (at depth : ℕ) (r : Result (Term × ℕ) TermFault) → SignAt bytes at Minus → NegativeAt bytes (at + 1) r → TreeAt bytes at depth r
 minus_tree bytes at depth (Ok x) h g = negative_tree bytes at depth x.1 x.0 h g
 minus_tree bytes at depth (Err fault) h g = λ k q. subst (Fails bytes fault) (sym (run_step bytes at Minus (Want k) (Negative k) h refl)) (g k)
-
-pub digit_negative : (bytes : List ℕ) (at d : ℕ) (r : Result (Term × ℕ) TermFault) → SignAt bytes at (Digit d) → NumberAt bytes (at + 1) true d r → NegativeAt bytes at r
-digit_negative bytes at d (Ok x) h g = negative_read bytes at d x.1 x.0 h g
-digit_negative bytes at d (Err fault) h g = λ k. subst (Fails bytes fault) (sym (negative_run bytes at d k h)) (g k)
