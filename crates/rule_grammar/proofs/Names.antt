@@ -34,7 +34,7 @@ few_names g r e = within_limit 64 (length g.names) Variables (by_role r) (within
 abbrev pub IsKnown : List (List ℕ) → List ℕ → Type 0
 IsKnown names name = list_any (bytes_eq name) names ≡ true
 
-itself : (name : List ℕ) → bytes_eq name name ≡ true
+pub itself : (name : List ℕ) → bytes_eq name name ≡ true
 itself name = (bytes_eq-Decides name name).1 refl
 
 other_way : (a b : List ℕ) → bytes_eq a b ≡ false → bytes_eq b a ≡ false

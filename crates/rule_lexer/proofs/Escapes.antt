@@ -45,7 +45,7 @@ pub record EscapeAt (bs : List ℕ) : Type 0 where
   pub says : escaped_byte (get_or bs 0 0) < 128
   pub behind : are_characters false (drop 1 bs) ≡ true
 
-escape_below : (b : ℕ) → is_escape b ≡ true → b < 128
+pub escape_below : (b : ℕ) → is_escape b ≡ true → b < 128
 escape_below b e = grind (arith, nat_tests)
 
 says_below : (b : ℕ) → b < 128 → escaped_byte b < 128

@@ -1,5 +1,6 @@
 -- A text that is written from pieces has their terminals.
 use Rattle.std.proofs.Common.{◌≡◌, ℕ, ◌+◌, ◌-◌, ◌≤◌, ◌==◌, Bool, true, false, List, [], ◌∷◌, ◌++◌, map, length, take, drop, refl, sym, ap, ◌∙◌, subst, arith, length-append, length-drop, append_assoc}
+use Rattle.std.proofs.lemmas.List.Folds.{list_all-append}
 use Rattle.std.specs.Prelude.{slice_range}
 use Rattle.std.specs.List.{list_all}
 use Rattle.std.proofs.lemmas.Bool.{and_parts, and_from}
@@ -16,8 +17,7 @@ use Rattle.rule_lexer.proofs.Stands.{Stands}
 use Rattle.rule_lexer.proofs.WrittenTokens.{terminal_stands, terminal_says}
 
 all_append : (p : ℕ → Bool) (xs ys : List ℕ) → list_all p xs ≡ true → list_all p ys ≡ true → list_all p (xs ++ ys) ≡ true
-all_append p [] ys a b = b
-all_append p (x ∷ xs) ys a b = let both = and_parts (p x) (list_all p xs) a in and_from _ _ both.0 (all_append p xs ys both.1 b)
+all_append p xs ys a b = list_all-append p xs ys ∙ and_from _ _ a b
 
 skipped_solid : (bs : List ℕ) → begins (is_skipped false) bs ≡ false → skipped false bs ≡ 0
 skipped_solid [] e = refl

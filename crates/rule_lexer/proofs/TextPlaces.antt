@@ -1,5 +1,6 @@
 -- The quotes of a text, and what stands between them.
 use Rattle.std.proofs.Common.{◌≡◌, ℕ, ◌+◌, ◌-◌, ◌<◌, ◌≤◌, true, false, List, [], ◌∷◌, ◌++◌, length, take, drop, get_or, refl, sym, ap, ◌∙◌, subst, arith, suc, length-append, length-drop, append_assoc}
+use Rattle.std.proofs.Math.Seq.{get_or-append_seam}
 use Rattle.std.specs.Prelude.{slice_range, IsUtf8, IsCharBoundary}
 use Rattle.std.proofs.lemmas.List.{drop-drop, get_or-drop, get_or-take, length-take-le, take_at, take-append-drop}
 use Rattle.std.proofs.lemmas.Str.{IsCharBoundary-before_ascii, IsCharBoundary-after_ascii}
@@ -18,10 +19,6 @@ pub record TextAt (text : List ℕ) (from to : ℕ) : Type 0 where
   pub last : IsCharBoundary text (to - 1)
   pub characters : are_characters false (take (to - 1 - (from + 1)) (drop (from + 1) text)) ≡ true
   pub content : text_content (slice_range text from to) ≡ unescaped false (take (to - 1 - (from + 1)) (drop (from + 1) text))
-
-last_of : (xs : List ℕ) (b : ℕ) → get_or (xs ++ b ∷ []) (length xs) 0 ≡ b
-last_of [] b = refl
-last_of (x ∷ xs) b = last_of xs b
 
 pub text_at : (text : List ℕ) (from to : ℕ) (inside : List ℕ) → IsUtf8 text → from ≤ to → to ≤ length text → slice_range text from to ≡ 34 ∷ inside ++ 34 ∷ [] → are_characters false inside ≡ true → TextAt text from to
 text_at text from to inside u o w e h = record {
@@ -46,7 +43,7 @@ text_at text from to inside u o w e h = record {
     first = rw (byte 0 from (omega (arith, size)) (omega arith)) (omega arith)
 
     last : get_or text (to - 1) 0 < 128
-    last = rw (byte (suc (length inside)) (to - 1) (omega (arith, size)) (omega (arith, size)) ∙ last_of inside 34) (omega arith)
+    last = rw (byte (suc (length inside)) (to - 1) (omega (arith, size)) (omega (arith, size)) ∙ get_or-append_seam inside 34 [] 0) (omega arith)
 
     behind : drop (from + 1) text ≡ inside ++ (34 ∷ drop (to - from) (drop from text))
     behind = ap (λ n. drop n text) (omega arith) ∙ (sym (drop-drop 1 from text) ∙ (ap (drop 1) (sym (take-append-drop (to - from) (drop from text)) ∙ ap (λ xs. xs ++ drop (to - from) (drop from text)) e) ∙ append_assoc inside (34 ∷ []) _))

@@ -1,12 +1,13 @@
 -- What a UTF-8 text says is written as UTF-8.
 use Rattle.std.proofs.Common.{◌≡◌, ℕ, ◌+◌, ◌<◌, ◌-◌, ◌^◌, Bool, true, false, cond, ◌==◌, nat_lt, List, [], ◌∷◌, ◌++◌, map, length, get_or, refl, sym, ap, append-nil, ◌∙◌, subst, arith, append_assoc, length-append}
+use Rattle.rule_lexer.proofs.Escapes.{escape_below}
 use Rattle.std.proofs.Math.Seq.{get_or-append_seam, take-append_seam, drop-append-add}
 use Rattle.std.specs.Prelude.{slice_range, IsUtf8, IsAscii}
 use Rattle.std.specs.Str.{is_utf8}
 use Rattle.std.specs.Char.{is_ascii_digit, is_ascii_lowercase, is_ascii_uppercase}
 use Rattle.std.specs.Fmt.{decimal}
 use Rattle.std.specs.List.{list_all, flat_map}
-use Rattle.std.proofs.lemmas.Bool.{and_parts, and_from, ltb-true}
+use Rattle.std.proofs.lemmas.Bool.{and_parts, and_from, ltb-true, eqb-true}
 use Rattle.std.proofs.lemmas.Bool.Decides.{nat_tests}
 use Rattle.std.proofs.lemmas.Str.{IsUtf8-append, IsUtf8-nil, IsUtf8-take, IsUtf8-drop, IsUtf8-between, IsUtf8-from_ascii, IsUtf8-from_is_utf8, is_utf8-from_IsUtf8, IsCharBoundary-before_ascii, IsCharBoundary-after_ascii}
 use Rattle.std.proofs.lemmas.Str.Ascii.{IsAscii-nil, IsAscii-cons}
@@ -20,7 +21,6 @@ use Rattle.rule_lexer.specs.declared.tokens.Mark.TheVariants as marks
 use Rattle.rule_lexer.specs.Sorts.{is_word, is_blank, begins}
 use Rattle.rule_lexer.specs.Spelling.{word_bytes, mark_bytes, is_escape, is_character, are_characters}
 use Rattle.rule_lexer.specs.Places.{TokenAt}
-use Rattle.rule_lexer.proofs.Classes.{eqb_is}
 use Rattle.rule_lexer.specs.declared.terminals.Terminal.{Terminal}
 use Rattle.rule_lexer.specs.declared.terminals.Terminal.TheVariants as made
 use Rattle.rule_lexer.specs.Lexing.{escaped_byte, unescaped, word_terminal, mark_terminal, terminal_of, Lexing}
@@ -76,7 +76,7 @@ same_byte : (front bs : List ℕ) (b : ℕ) → IsUtf8 (front ++ b ∷ bs) → I
 same_byte front bs b u = subst IsUtf8 (sym (append_assoc front (b ∷ []) bs)) u
 
 byte_is : (b n : ℕ) → n < 128 → (b == n) ≡ true → b < 128
-byte_is b n l e = let f : b ≡ n = eqb_is b n e in omega arith
+byte_is b n l e = let f : b ≡ n = eqb-true b n e in omega arith
 
 escape_step : (front bs : List ℕ) (b : ℕ) → IsUtf8 (front ++ b ∷ bs) → IsUtf8 ((front ++ escape b) ++ bs)
 escape_step front bs b u = at (b == 34) (b == 92) (b == 10) (b == 9) refl refl refl refl
@@ -96,9 +96,6 @@ escapes front (b ∷ bs) u = subst IsUtf8 (append_assoc front (escape b) (flat_m
 quoted_utf8 : (text : List ℕ) → IsUtf8 text → IsUtf8 (quoted text)
 quoted_utf8 text u = IsUtf8-append (34 ∷ []) (flat_map escape text ++ 34 ∷ []) (ascii (34 ∷ []) refl) (IsUtf8-append (flat_map escape text) (34 ∷ []) (escapes [] text u) (ascii (34 ∷ []) refl))
 
-escape_ascii : (b : ℕ) → is_escape b ≡ true → b < 128
-escape_ascii b h = grind (arith, nat_tests)
-
 escaped_ascii : (b : ℕ) → is_escape b ≡ true → is_ascii (escaped_byte b) ≡ true
 escaped_ascii b h = grind (arith, nat_tests)
 
@@ -115,7 +112,7 @@ unescaped_reads [] escaped front u h = u
 unescaped_reads (b ∷ bs) true front u h =
     let both = and_parts (is_escape b) (are_characters false bs) h in
     subst IsUtf8 (append_assoc front (escaped_byte b ∷ []) (unescaped false bs))
-    (unescaped_reads bs false (front ++ escaped_byte b ∷ []) (replaced front bs (escaped_byte b ∷ []) b (escape_ascii b both.0) u (ascii (escaped_byte b ∷ []) (and_from _ _ (escaped_ascii b both.0) refl))) both.1)
+    (unescaped_reads bs false (front ++ escaped_byte b ∷ []) (replaced front bs (escaped_byte b ∷ []) b (escape_below b both.0) u (ascii (escaped_byte b ∷ []) (and_from _ _ (escaped_ascii b both.0) refl))) both.1)
 unescaped_reads (b ∷ bs) false front u h =
     let both = and_parts (is_character false b) (are_characters (b == 92) bs) h in
     unescape_step b bs (unescaped_reads bs) front u (b == 92) refl both.1

@@ -2,14 +2,13 @@
 use Rattle.std.proofs.Common.{◌≡◌, ℕ, ◌+◌, ◌-◌, Bool, true, false, cond, ◌==◌, List, [], ◌∷◌, ◌++◌, length, refl, sym, ap, ◌∙◌, subst, arith, Ok, length-append, append_assoc}
 use Rattle.std.specs.List.{list_all, flat_map}
 use Rattle.std.specs.Prelude.{slice_range}
-use Rattle.std.proofs.lemmas.Bool.{and_parts, and_from}
+use Rattle.std.proofs.lemmas.Bool.{and_parts, and_from, eqb-true}
 use Rattle.std.proofs.lemmas.Bool.Decides.{nat_tests}
 use Rattle.std.proofs.lemmas.List.{take_at}
 use Rattle.ev_term.specs.Text.{escape, quoted}
 use Rattle.rule_lexer.specs.declared.tokens.TokenKind.TheVariants.{Text}
 use Rattle.rule_lexer.specs.Spelling.{are_characters, is_character}
 use Rattle.rule_lexer.specs.Reading.{LongestOf, text_end}
-use Rattle.rule_lexer.proofs.Classes.{eqb_is}
 use Rattle.rule_lexer.proofs.TextLaws.{text_end-quote, text_longest}
 use Rattle.rule_lexer.specs.Lexing.{unescaped, text_content}
 use Rattle.rule_lexer.specs.Writing.{is_text_byte}
@@ -39,10 +38,10 @@ escape_says b rest = at (b == 34) (b == 92) (b == 10) (b == 9) refl refl refl re
   where
     at : (q s f h : Bool) → (b == 34) ≡ q → (b == 92) ≡ s → (b == 10) ≡ f → (b == 9) ≡ h
         → unescaped false (cond q (92 ∷ 34 ∷ []) (cond s (92 ∷ 92 ∷ []) (cond f (92 ∷ 110 ∷ []) (cond h (92 ∷ 116 ∷ []) (b ∷ [])))) ++ rest) ≡ b ∷ unescaped false rest
-    at true s f h eq es ef eh = ap (λ x. x ∷ unescaped false rest) (sym (eqb_is b 34 eq))
-    at false true f h eq es ef eh = ap (λ x. x ∷ unescaped false rest) (sym (eqb_is b 92 es))
-    at false false true h eq es ef eh = ap (λ x. x ∷ unescaped false rest) (sym (eqb_is b 10 ef))
-    at false false false true eq es ef eh = ap (λ x. x ∷ unescaped false rest) (sym (eqb_is b 9 eh))
+    at true s f h eq es ef eh = ap (λ x. x ∷ unescaped false rest) (sym (eqb-true b 34 eq))
+    at false true f h eq es ef eh = ap (λ x. x ∷ unescaped false rest) (sym (eqb-true b 92 es))
+    at false false true h eq es ef eh = ap (λ x. x ∷ unescaped false rest) (sym (eqb-true b 10 ef))
+    at false false false true eq es ef eh = ap (λ x. x ∷ unescaped false rest) (sym (eqb-true b 9 eh))
     at false false false false eq es ef eh = rw es refl
 
 text_says : (text : List ℕ) → unescaped false (flat_map escape text) ≡ text

@@ -1,6 +1,6 @@
 -- Terminals that are written are read.
 use Rattle.std.proofs.Common.{◌≡◌, ℕ, ◌<◌, ◌^◌, true, false, nat_lt, ◌==◌, List, refl, ap, arith}
-use Rattle.std.proofs.lemmas.Bool.{not-true}
+use Rattle.std.proofs.lemmas.Bool.{not-true, ltb-true}
 use Rattle.std.proofs.lemmas.Bool.Decides.{nat_tests}
 use Rattle.ev_term.specs.declared.operators.Op.{Op}
 use Rattle.ev_term.specs.declared.operators.Op.TheVariants as op
@@ -18,15 +18,12 @@ use Rattle.rule_lexer.proofs.WrittenNumbers.{number_stands, huge_stands}
 use Rattle.rule_lexer.proofs.WrittenTexts.{text_stands, quoted_content}
 use Rattle.rule_lexer.proofs.WrittenSigns.{mark_stands}
 
-below : (n m : ℕ) → nat_lt n m ≡ true → n < m
-below n m e = grind (arith, nat_tests)
-
 -- where the terminal may precede the rest, its spelling is the longest token there
 pub terminal_stands : (t : Terminal) (rest : List ℕ) → is_proper t ≡ true → may_precede t rest ≡ true → Stands (kind_of t) (spelling t) rest
 terminal_stands (made.Name word) rest p h = name_stands word rest p (not-true _ h)
 terminal_stands (made.Var word) rest p h = var_stands word rest p (not-true _ h)
 terminal_stands (made.Text text) rest p h = text_stands text rest p
-terminal_stands (made.Number n) rest p h = number_stands n rest (below n (2 ^ 63) p) (not-true _ h)
+terminal_stands (made.Number n) rest p h = number_stands n rest (ltb-true n (2 ^ 63) p) (not-true _ h)
 terminal_stands made.Huge rest p h = huge_stands rest (not-true _ h)
 terminal_stands made.Wild rest p h = wild_stands rest (not-true _ h)
 terminal_stands (made.Op o) rest p h = reserved_stands (op_word o) rest (not-true _ h)
@@ -69,7 +66,7 @@ not_huge n l = grind (arith, nat_tests)
 pub terminal_says : (t : Terminal) → is_proper t ≡ true → terminal_of (kind_of t) (spelling t) ≡ t
 terminal_says (made.Name word) p = refl
 terminal_says (made.Text text) p = ap (λ x. made.Text x) (quoted_content text)
-terminal_says (made.Number n) p = rw (not_huge n (below n (2 ^ 63) p)) refl
+terminal_says (made.Number n) p = rw (not_huge n (ltb-true n (2 ^ 63) p)) refl
 terminal_says (made.Op o) p = op_says o
 terminal_says (made.Compare c) p = cmp_says c
 terminal_says t p = refl

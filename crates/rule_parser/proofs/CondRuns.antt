@@ -26,7 +26,7 @@ use Rattle.rule_parser.specs.Steps.{Fine, with_variable, with_part, Extends, Fai
 use Rattle.rule_grammar.specs.Values.{slot_of, adding_value, scaling_value, condition_value, all_value, negation_value, comparison_value, sum_value, product_value, unit_value}
 use Rattle.rule_parser.proofs.Names.{extends_refl, extends_trans, extends_name}
 use Rattle.rule_parser.specs.Steps.{Link, begins_word, unit_level, product_level, sum_level, comparison_level, negation_level, all_level, condition_level}
-use Rattle.rule_parser.proofs.TermRuns.{run_on, resume_on, by_role_alone, quiet, fits, fails_along, word_shorter}
+use Rattle.rule_parser.proofs.TermRuns.{run_on, resume_on, by_role_alone, quiet, fits, fails_along, word_shorter, alone}
 
 -- Two trees with a token of one part between them.
 
@@ -217,7 +217,7 @@ unit_grouped {ts} {r1} {r2} {rest} {d} {g} {g'} {v} f n e c l = record {
 -- Products.
 
 pub product_one : {ts rest : List Terminal} {d : ℕ} {g g' : Counted} {v : PlainCond} → Read unit_level unit_value ts d g g' v rest → Read product_level product_value ts d g g' v rest
-product_one u = record { tree = OneUnit u.tree; says = u.says; grows = u.grows; fine = u.fine; shorter = u.shorter; counts = u.counts; runs = λ h q. u.runs (FirstUnit h) q }
+product_one u = alone OneUnit u (λ names. refl) (λ more. refl) (λ h q. u.runs (FirstUnit h) q)
 
 pub product_more : {ts r1 r2 rest : List Terminal} {d : ℕ} {g g1 g2 g' : Counted} {u v w : PlainCond} (op : Scaling) → Read product_level product_value ts d g g1 u r1 → r1 ≡ scaling op ∷ r2 → g2 ≡ with_part g1 → Fine (with_part g1)
     → Read unit_level unit_value r2 d g2 g' v rest → w ≡ plain.Calculate (scaling_value op) u v → Read product_level product_value ts d g g' w rest
@@ -243,15 +243,8 @@ product_over h p (t.Percent ∷ xs) g l = absurd l
 product_over h p (x ∷ xs) g l = refl
 
 pub sum_one : {ts rest : List Terminal} {d : ℕ} {g g' : Counted} {v : PlainCond} → Read product_level product_value ts d g g' v rest → LacksScaling rest → Read sum_level sum_value ts d g g' v rest
-sum_one {rest = rest} {g' = g'} p l = record {
-  tree = OneProduct p.tree;
-  says = p.says;
-  grows = p.grows;
-  fine = p.fine;
-  shorter = p.shorter;
-  counts = p.counts;
-  runs = λ c q. p.runs (FirstProduct c) q ∙ product_over (FirstProduct c) p.tree rest g' l;
-}
+sum_one {rest = rest} {g' = g'} p l =
+    alone OneProduct p (λ names. refl) (λ more. refl) (λ c q. p.runs (FirstProduct c) q ∙ product_over (FirstProduct c) p.tree rest g' l)
 
 pub sum_more : {ts r1 r2 rest : List Terminal} {d : ℕ} {g g1 g2 g' : Counted} {u v w : PlainCond} (op : Adding) → Read sum_level sum_value ts d g g1 u r1 → r1 ≡ adding op ∷ r2 → g2 ≡ with_part g1 → Fine (with_part g1)
     → Read product_level product_value r2 d g2 g' v rest → LacksScaling rest → w ≡ plain.Calculate (adding_value op) u v → Read sum_level sum_value ts d g g' w rest
@@ -283,15 +276,8 @@ second_over n l cmp s (t.Minus ∷ xs) g a = absurd a
 second_over n l cmp s (x ∷ xs) g a = refl
 
 pub comparison_one : {ts rest : List Terminal} {d : ℕ} {g g' : Counted} {v : PlainCond} → Read sum_level sum_value ts d g g' v rest → LacksAdding rest → LacksCompare rest → Read comparison_level comparison_value ts d g g' v rest
-comparison_one {rest = rest} {g' = g'} s a b = record {
-  tree = OneSum s.tree;
-  says = s.says;
-  grows = s.grows;
-  fine = s.fine;
-  shorter = s.shorter;
-  counts = s.counts;
-  runs = λ n q. s.runs (FirstSum n) q ∙ sum_over n s.tree rest g' a b;
-}
+comparison_one {rest = rest} {g' = g'} s a b =
+    alone OneSum s (λ names. refl) (λ more. refl) (λ n q. s.runs (FirstSum n) q ∙ sum_over n s.tree rest g' a b)
 
 compare_begins : {ts r1 r2 : List Terminal} {d : ℕ} {g g1 : Counted} {u : PlainCond} (cmp : Cmp) → (a : Read sum_level sum_value ts d g g1 u r1) → r1 ≡ t.Compare cmp ∷ r2 → Fine (with_part g1)
     → (n : NotHead) → not_depth n ≡ d → run ts g (WantUnit (first_unit (FirstSum n))) ≡ run r2 (with_part g1) (WantUnit (first_unit (SecondSum n a.tree cmp)))
@@ -321,15 +307,7 @@ negation_enters n (t.Bang ∷ xs) g l = absurd (l refl)
 negation_enters n (x ∷ xs) g l = refl
 
 pub negation_compared : {ts rest : List Terminal} {d : ℕ} {g g' : Counted} {v : PlainCond} → Lacks sign.Bang ts → Read comparison_level comparison_value ts d g g' v rest → Read negation_level negation_value ts d g g' v rest
-negation_compared {ts} {rest} {d} {g} l c = record {
-  tree = Compared c.tree;
-  says = c.says;
-  grows = c.grows;
-  fine = c.fine;
-  shorter = c.shorter;
-  counts = c.counts;
-  runs = λ n q. negation_enters n ts g l ∙ c.runs n q;
-}
+negation_compared {ts} {rest} {d} {g} l c = alone Compared c (λ names. refl) (λ more. refl) (λ n q. negation_enters n ts g l ∙ c.runs n q)
 
 pub negation_compared_answer : {R : Type 0} (plain' : R → PlainCond) (ts : List Terminal) (d : ℕ) (g g' : Counted) (r : Result (R × Bor (List Terminal)) Stop) → Lacks sign.Bang ts → Answer comparison_level comparison_value plain' ts d g g' r → Answer negation_level negation_value plain' ts d g g' r
 negation_compared_answer plain' ts d g g' (Ok x) l a = negation_compared l a
@@ -353,7 +331,7 @@ negation_more {ts} {r1} {rest} {d} {g} {g1} {g'} e p f n s = record {
 -- Conjunctions and conditions.
 
 pub all_one : {ts rest : List Terminal} {d : ℕ} {g g' : Counted} {v : PlainCond} → Read negation_level negation_value ts d g g' v rest → Read all_level all_value ts d g g' v rest
-all_one n = record { tree = OneNegation n.tree; says = n.says; grows = n.grows; fine = n.fine; shorter = n.shorter; counts = n.counts; runs = λ o q. n.runs (NoBang (FirstNegation o)) q }
+all_one n = alone OneNegation n (λ names. refl) (λ more. refl) (λ o q. n.runs (NoBang (FirstNegation o)) q)
 
 pub all_more : {ts r1 r2 rest : List Terminal} {d : ℕ} {g g1 g2 g' : Counted} {u v w : PlainCond} → Read all_level all_value ts d g g1 u r1 → r1 ≡ t.Both ∷ r2 → g2 ≡ with_part g1 → Fine (with_part g1)
     → Read negation_level negation_value r2 d g2 g' v rest → w ≡ plain.AndAlso u v → Read all_level all_value ts d g g' w rest
@@ -375,15 +353,8 @@ all_over o a (t.Both ∷ xs) g l = absurd (l refl)
 all_over o a (x ∷ xs) g l = refl
 
 pub condition_one : {ts rest : List Terminal} {d : ℕ} {g g' : Counted} {v : PlainCond} → Read all_level all_value ts d g g' v rest → Lacks sign.Both rest → Read condition_level condition_value ts d g g' v rest
-condition_one {rest = rest} {g' = g'} a l = record {
-  tree = OneAll a.tree;
-  says = a.says;
-  grows = a.grows;
-  fine = a.fine;
-  shorter = a.shorter;
-  counts = a.counts;
-  runs = λ w q. a.runs (FirstAll w) q ∙ all_over (FirstAll w) a.tree rest g' l;
-}
+condition_one {rest = rest} {g' = g'} a l =
+    alone OneAll a (λ names. refl) (λ more. refl) (λ w q. a.runs (FirstAll w) q ∙ all_over (FirstAll w) a.tree rest g' l)
 
 pub condition_more : {ts r1 r2 rest : List Terminal} {d : ℕ} {g g1 g2 g' : Counted} {u v w : PlainCond} → Read condition_level condition_value ts d g g1 u r1 → r1 ≡ t.Either ∷ r2 → g2 ≡ with_part g1 → Fine (with_part g1)
     → Read all_level all_value r2 d g2 g' v rest → Lacks sign.Both rest → w ≡ plain.OrElse u v → Read condition_level condition_value ts d g g' w rest

@@ -31,7 +31,7 @@ use Rattle.rule_parser.specs.Steps.{Fine, with_variable, Extends, Fails, resume,
 use Rattle.rule_grammar.specs.Values.{slot_of, head_term_value, head_terms_value, tree_value, heading_value, names_of, statement_value}
 use Rattle.rule_parser.proofs.Names.{extends_refl, extends_trans, extends_name}
 use Rattle.rule_parser.specs.Steps.{tree_level, head_term_level, head_terms_level, HeadListRead, HeadRead, StatementRead, ItemRead, ItemsRead, NextRead, FileRead, WholeRead, named_state, shown_state}
-use Rattle.rule_parser.proofs.TermRuns.{run_on, run_off, resume_on, resume_off, by_role_alone, quiet, fits, exceeds, fails_along, word_shorter}
+use Rattle.rule_parser.proofs.TermRuns.{run_on, run_off, resume_on, resume_off, by_role_alone, quiet, fits, exceeds, fails_along, word_shorter, word_counts}
 
 -- Terms of heads.
 
@@ -56,13 +56,6 @@ word_head_runs Least ts rest g f n e ss name h =
     ∙ run_on {xs = rest} {x = t.Huge} g (HeadMinus ss name h) Quiet (HaveHeadTerms ss name (put_head h (Fixed (Lone Least)))) refl refl (quiet g f) ∙ head_resumes ss name _ rest g
 word_head_runs (Symbol w) ts rest g f n e ss name h = absurd n
 word_head_runs (Quoted text) ts rest g f n e ss name h = run_on g (WantHeadTerm ss name h) Quiet (HaveHeadTerms ss name (put_head h (Fixed (Lone (Quoted text))))) e refl (quiet g f) ∙ head_resumes ss name _ rest g
-
-word_counts : (l : Literal) (g : Counted) (more : List Marked) → count_all g (literal Quiet l more) ≡ count_all g more
-word_counts (Digits m) g more = refl
-word_counts (Minus m) g more = refl
-word_counts Least g more = refl
-word_counts (Symbol name) g more = refl
-word_counts (Quoted text) g more = refl
 
 pub head_word : {ts rest : List Terminal} {g : Counted} {v : Pat} → Fine g → WordRead ts v rest → Read head_term_level head_term_value ts 0 g g v rest
 head_word {ts} {rest} {g} f w = record {

@@ -27,7 +27,7 @@ use Rattle.rule_grammar.specs.Values.{condition_value, joined_value, tree_value,
 use Rattle.rule_parser.proofs.Names.{extends_refl, extends_trans}
 use Rattle.rule_parser.specs.Signs.{LacksBound, bound_terminal, bounded_value}
 use Rattle.rule_parser.specs.Steps.{Link, LengthRead, part_level, round_level, chain_level, tree_level, condition_level}
-use Rattle.rule_parser.proofs.TermRuns.{run_on, resume_on, by_role_alone, quiet, fits}
+use Rattle.rule_parser.proofs.TermRuns.{run_on, resume_on, by_role_alone, quiet, fits, alone}
 use Rattle.rule_parser.proofs.CondRuns.{link_on, earlier}
 
 part_resumes : (c : Chain) (k : Stack) (rest : List Terminal) (g : Counted) → run rest g (HavePart c k) ≡ resume (behind_chain k c) rest g
@@ -135,15 +135,8 @@ round_more bounds.Most {ts} {r1} {r2} {rest} {d} {q} {g} {g1} {g2} a e p f l s =
 }
 
 pub part_round : {ts rest : List Terminal} {d : ℕ} {g g' : Counted} {v : PlainPattern} → Read round_level round_value ts d g g' v rest → LacksBound rest → Read part_level part_value ts d g g' v rest
-part_round {rest = rest} {g' = g'} r l = record {
-  tree = Rounded r.tree;
-  says = r.says;
-  grows = r.grows;
-  fine = r.fine;
-  shorter = r.shorter;
-  counts = r.counts;
-  runs = λ c q. r.runs c q ∙ round_over c.0 r.tree c.1 rest g' l;
-}
+part_round {rest = rest} {g' = g'} r l =
+    alone Rounded r (λ names. refl) (λ more. refl) (λ c q. r.runs c q ∙ round_over c.0 r.tree c.1 rest g' l)
 
 -- NOT: up to its first limit, up to its second, and whole.
 
@@ -198,7 +191,7 @@ abbrev pub where_link : Link tree_level condition_level t.Where
 where_link = record { next = λ k p. InWhere p k; goes = λ k p. refl; deep = λ k p. refl }
 
 pub chain_one : {ts rest : List Terminal} {d : ℕ} {g g' : Counted} {v : PlainPattern} → Read part_level part_value ts d g g' v rest → Read chain_level chain_value ts d g g' v rest
-chain_one p = record { tree = One p.tree; says = p.says; grows = p.grows; fine = p.fine; shorter = p.shorter; counts = p.counts; runs = λ k q. p.runs (FirstPart, k) q }
+chain_one p = alone One p (λ names. refl) (λ more. refl) (λ k q. p.runs (FirstPart, k) q)
 
 pub chain_more : {ts r1 r2 rest : List Terminal} {d : ℕ} {g g1 g2 g' : Counted} {u v w : PlainPattern} (j : Joint) → Read chain_level chain_value ts d g g1 u r1 → r1 ≡ joint j ∷ r2 → g2 ≡ with_part g1 → Fine (with_part g1)
     → Read part_level part_value r2 d g2 g' v rest → w ≡ joined_value j u v → Read chain_level chain_value ts d g g' w rest
@@ -221,15 +214,8 @@ chain_over k c (t.Or ∷ xs) g l = absurd l
 chain_over k c (x ∷ xs) g l = refl
 
 pub tree_plain : {ts rest : List Terminal} {d : ℕ} {g g' : Counted} {v : PlainPattern} → Read chain_level chain_value ts d g g' v rest → LacksJoint rest → Read tree_level tree_value ts d g g' v rest
-tree_plain {rest = rest} {g' = g'} c l = record {
-  tree = Plain c.tree;
-  says = c.says;
-  grows = c.grows;
-  fine = c.fine;
-  shorter = c.shorter;
-  counts = c.counts;
-  runs = λ k q. c.runs k q ∙ chain_over k c.tree rest g' l;
-}
+tree_plain {rest = rest} {g' = g'} c l =
+    alone Plain c (λ names. refl) (λ more. refl) (λ k q. c.runs k q ∙ chain_over k c.tree rest g' l)
 
 where_over : (p : Tree) (k : Stack) (c : Condition) (rest : List Terminal) (g : Counted) → Lacks sign.Either rest → resume (behind_condition (InWhere p k) c) rest g ≡ resume (behind k (Filtered p c)) rest g
 where_over p k c [] g l = refl

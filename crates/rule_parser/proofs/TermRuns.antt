@@ -1,9 +1,8 @@
 -- How runs go on over the tokens of terms and lists of arguments.
 use Rattle.std.proofs.Common.{◌≡◌, ℕ, ◌+◌, ◌<◌, ◌≤◌, Bool, true, false, cond, ltb, List, [], ◌∷◌, ◌++◌, length, Option, Some, None, Result, Err, w64, to_z, of_z, pos, ◌-ℤ◌, ◌^◌, refl, sym, ap, ◌∙◌, arith, subst, length-append}
-use Rattle.std.proofs.lemmas.Bool.{le-ltb}
+use Rattle.std.proofs.lemmas.Bool.{le-ltb, lt-ltb}
 use Rattle.std.proofs.lemmas.Option.{same_Some}
 use Rattle.std.proofs.lemmas.Int.{to_z_pos, to_z-of_z}
-use borrow.Author.Tests.{ltb-false}
 use Rattle.ev_term.specs.declared.terms.Pat.{Pat}
 use Rattle.ev_term.specs.declared.terms.Pat.TheVariants as pat
 use Rattle.rule_lexer.specs.declared.terminals.Terminal.{Terminal}
@@ -27,7 +26,7 @@ use Rattle.rule_parser.specs.declared.signs.Sign.TheVariants as sign
 use Rattle.rule_parser.specs.declared.terms.Kind.{Kind}
 use Rattle.rule_parser.specs.declared.terms.Kind.TheVariants.{Ground, Operand, Argument}
 use Rattle.rule_parser.specs.Signs.{Lacks}
-use Rattle.rule_parser.specs.Steps.{Fine, with_variable, Extends, Fails, resume, Read, Leaves, Place, base, leaf_read, leaf_terminal, in_list, turn_of, term_of, terms_of, term_level, terms_level, ListRead, word_tokens, IsNoSymbol, LacksWord, LacksDigits, WordRead, WordFails, WordAnswer, LeafRead, LeafFails, LeafAnswer, SlotStops, same}
+use Rattle.rule_parser.specs.Steps.{Level, Runs, Fine, with_variable, Extends, Fails, resume, Read, Leaves, Place, base, leaf_read, leaf_terminal, in_list, turn_of, term_of, terms_of, term_level, terms_level, ListRead, word_tokens, IsNoSymbol, LacksWord, LacksDigits, WordRead, WordFails, WordAnswer, LeafRead, LeafFails, LeafAnswer, SlotStops, same}
 use Rattle.rule_grammar.specs.Values.{slot_of}
 use Rattle.rule_parser.proofs.Names.{extends_refl, extends_trans, extends_name}
 
@@ -58,13 +57,6 @@ under most n w o h = ap (λ b. cond b (Some w) o) (le-ltb most n h)
 
 beyond : (most n : ℕ) (w : Which) (o : Option Which) → most < n → over most n w o ≡ Some w
 beyond most n w o h = ap (λ b. cond b (Some w) o) (lt-ltb most n h)
-  where
-    lt-ltb : (a b : ℕ) → a < b → ltb a b ≡ true
-    lt-ltb a b h = at (ltb a b) refl
-      where
-        at : (c : Bool) → ltb a b ≡ c → c ≡ true
-        at true e = refl
-        at false e = let f = ltb-false a b e in absurd (omega arith)
 
 pub by_role_alone : (g : Counted) (r : Role) → Fine g → passed g r ≡ by_role r
 by_role_alone g r f = under 256 g.parts which.Parts _ f.parts ∙ under 64 (length g.names) which.Variables (by_role r) f.names
@@ -83,6 +75,20 @@ too_many_names g r p h = under 256 g.parts which.Parts _ p ∙ beyond 64 (length
 
 pub fails_along : (e : Stop) {r s : Result Statements Fault} → r ≡ s → Fails e s → Fails e r
 fails_along e p f = subst (λ x. Fails e x) (sym p) f
+
+-- What is read is read as a tree that it is alone, where the machine goes on alike.
+pub alone : {C T C' T' V : Type 0} {L : Level C T} {E : Level C' T'} {value : List (List ℕ) → T → V} {value' : List (List ℕ) → T' → V} {ts rest : List Terminal} {d : ℕ} {g g' : Counted} {v : V}
+    (wrap : T → T') → (a : Read L value ts d g g' v rest) → ((names : List (List ℕ)) → value' names (wrap a.tree) ≡ value names a.tree)
+    → ((more : List Marked) → E.tokens d (wrap a.tree) more ≡ L.tokens d a.tree more) → Runs E ts d g (wrap a.tree) g' rest → Read E value' ts d g g' v rest
+alone {g = g} wrap a says tokens runs = record {
+  tree = wrap a.tree;
+  says = λ names q. says names ∙ a.says names q;
+  grows = a.grows;
+  fine = a.fine;
+  shorter = a.shorter;
+  counts = λ more. ap (count_all g) (tokens more) ∙ a.counts more;
+  runs = runs;
+}
 
 -- Lists of arguments.
 
@@ -154,7 +160,7 @@ word_shorter Least ts rest e = omega (arith, ap length e)
 word_shorter (Symbol name) ts rest e = omega (arith, ap length e)
 word_shorter (Quoted text) ts rest e = omega (arith, ap length e)
 
-word_counts : (l : Literal) (g : Counted) (more : List Marked) → count_all g (literal Quiet l more) ≡ count_all g more
+pub word_counts : (l : Literal) (g : Counted) (more : List Marked) → count_all g (literal Quiet l more) ≡ count_all g more
 word_counts (Digits m) g more = refl
 word_counts (Minus m) g more = refl
 word_counts Least g more = refl

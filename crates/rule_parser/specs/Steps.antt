@@ -86,6 +86,13 @@ pub record Read {C T V : Type 0} (L : Level C T) (value : List (List ℕ) → T 
   pub counts : (more : List Marked) → count_all g (L.tokens d tree more) ≡ count_all g' more
   pub runs : Runs L ts d g tree g' rest
 
+-- it is read, and the bracket behind it
+pub record Closed {C T V : Type 0} (L : Level C T) (value : List (List ℕ) → T → V) (ts : List Terminal) (d : ℕ)
+    (g g' : Counted) (v : V) (rest : List Terminal) : Type 0 where
+  pub closed : List Terminal
+  pub close : closed ≡ t.Close ∷ rest
+  pub read : Read L value ts d g g' v closed
+
 -- it is read, or the machine stops with this fault under every context
 abbrev pub Answer : {C T V R : Type 0} → Level C T → (List (List ℕ) → T → V) → (R → V) → List Terminal → ℕ → Counted → Counted
     → Result (R × Bor (List Terminal)) Stop → Type 0
@@ -176,10 +183,8 @@ terms_level k = record {
 }
 
 -- arguments were read, and the bracket behind them
-pub record ListRead (k : Kind) (ts : List Terminal) (d : ℕ) (g g' : Counted) (vs : List Pat) (rest : List Terminal) : Type 0 where
-  pub closed : List Terminal
-  pub close : closed ≡ t.Close ∷ rest
-  pub read : Read (terms_level k) (terms_of k) ts d g g' vs closed
+abbrev pub ListRead : (k : Kind) → List Terminal → ℕ → Counted → Counted → List Pat → List Terminal → Type 0
+ListRead k ts d g g' vs rest = Closed (terms_level k) (terms_of k) ts d g g' vs rest
 
 abbrev pub ListAnswer : {Z : Type 0} (k : Kind) → List Terminal → ℕ → Counted → Counted
     → Result (Vec Pat Z × Bor (List Terminal)) Stop → Type 0
@@ -382,10 +387,8 @@ head_terms_level = record {
 }
 
 -- terms of a head were read, and the bracket behind them
-pub record HeadListRead (ts : List Terminal) (g g' : Counted) (vs : List Pat) (rest : List Terminal) : Type 0 where
-  pub closed : List Terminal
-  pub close : closed ≡ t.Close ∷ rest
-  pub read : Read head_terms_level head_terms_value ts 0 g g' vs closed
+abbrev pub HeadListRead : List Terminal → Counted → Counted → List Pat → List Terminal → Type 0
+HeadListRead ts g g' vs rest = Closed head_terms_level head_terms_value ts 0 g g' vs rest
 
 abbrev pub HeadListAnswer : {Z : Type 0} → List Terminal → Counted → Counted → Result (Vec Pat Z × Bor (List Terminal)) Stop → Type 0
 HeadListAnswer ts g g' (Ok x) = HeadListRead ts g g' x.0.items x.1.now

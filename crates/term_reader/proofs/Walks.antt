@@ -13,7 +13,7 @@ use Rattle.term_reader.specs.Grammar.{status, fits, in_range, has_room, number, 
 use Rattle.term_reader.specs.Machine.{Stack, Stack.Top, Stack.First, Stack.Next, opened, guard, blank, behind, character, step, said, stack, so_far, start}
 use Rattle.term_reader.specs.Machine.{State, State.Begin, State.Want, State.InWord, State.Negative, State.InNumber, State.InText, State.InEscape, State.InWide, State.Behind}
 use Rattle.std.specs.Prelude.{nat_lt, nat_le}
-use Rattle.std.proofs.lemmas.Bool.{le-leb, leb-true, lt-ltb, ltb-true}
+use Rattle.std.proofs.lemmas.Bool.{le-leb, leb-true, lt-ltb, ltb-true, and_from}
 
 -- A step keeps all that was read.
 
@@ -257,11 +257,8 @@ range : (bs : Bytes) → HasRange (status bs)
 range (OneByte b) = first_range b
 range (MoreByte bs b) = more_range (status bs) b
 
-and-true : (a b : Bool) → a ≡ true → b ≡ true → (a && b) ≡ true
-and-true a b e f = rw (e, f) refl
-
 least_fits : (low high more : ℕ) → nat_le low high ≡ true → status_more (needs low high more) low ≡ status_next more
-least_fits low high more h = ap (λ x. cond x (status_next more) Wrong) (and-true (nat_le low low) (nat_le low high) (le-leb low low (omega arith)) h)
+least_fits low high more h = ap (λ x. cond x (status_next more) Wrong) (and_from (nat_le low low) (nat_le low high) (le-leb low low (omega arith)) h)
 
 wide_ends : (lim : Bool) (a : Wanted) (more low high : ℕ) (k : Stack) (l : Letters) (bs : Bytes) → status bs ≡ needs low high more → nat_le low high ≡ true → sign_of low ≡ High low → IsOpen k → FineStack lim a k → FineLetters l → Ends lim a (λ r. stack k (Quote ∷ letters l (bytes bs r)))
 unfolding signs
