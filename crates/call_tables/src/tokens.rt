@@ -1,20 +1,20 @@
 // The tokens of a text.
 use ev_term::Op;
 use rule_ast::Cmp;
-use rule_tokens::{Lexeme, lex};
+use rule_lexer::{Terminal, lex};
 use std::test::Fail;
 
-fn shown(lexeme: &Lexeme) -> &str {
-    match lexeme {
-        Lexeme::Name(word) => word.as_str(),
-        Lexeme::Var(word) => word.as_str(),
-        Lexeme::Text(text) => text.as_str(),
-        Lexeme::Number(number) if number.value() == 7 => "7",
-        Lexeme::Huge => "2^63",
-        Lexeme::Op(Op::Seq) => "SEQ",
-        Lexeme::Compare(Cmp::Le) => "<=",
-        Lexeme::Stray => "[",
-        Lexeme::End => ".",
+fn shown(terminal: &Terminal) -> &str {
+    match terminal {
+        Terminal::Name(word) => word.as_str(),
+        Terminal::Var(word) => word.as_str(),
+        Terminal::Text(text) => text.as_str(),
+        Terminal::Number(number) if number.value() == 7 => "7",
+        Terminal::Huge => "2^63",
+        Terminal::Op(Op::Seq) => "SEQ",
+        Terminal::Compare(Cmp::Le) => "<=",
+        Terminal::Stray => "[",
+        Terminal::End => ".",
         _ => "?",
     }
 }
@@ -36,16 +36,16 @@ fn tokens_of_texts(rt: HostRuntime) -> Result<(), Fail> {
         rt.alloc(),
         "a <= X SEQ\"\\t\\\"é\\\\\" 9223372036854775808 [7 . $",
     )?;
-    assert_eq!(rt; lexed.lexemes.len(), table.len());
+    assert_eq!(rt; lexed.terminals.len(), table.len());
     assert_eq!(rt; lexed.places.len(), table.len());
-    let read = lexed.lexemes.iter().zip(lexed.places.iter());
-    for ((lexeme, place), row) in read.zip(table.iter()) {
-        assert_eq!(rt; shown(lexeme), row.0);
+    let read = lexed.terminals.iter().zip(lexed.places.iter());
+    for ((terminal, place), row) in read.zip(table.iter()) {
+        assert_eq!(rt; shown(terminal), row.0);
         assert_eq!(rt; *place, row.1);
     }
     assert_eq!(rt; lexed.end, 46);
     assert!(rt; !lexed.whole);
     let blank = lex(rt.alloc(), " # a")?;
-    assert!(rt; blank.whole && blank.lexemes.is_empty() && blank.end == 4);
+    assert!(rt; blank.whole && blank.terminals.is_empty() && blank.end == 4);
     Ok(())
 }

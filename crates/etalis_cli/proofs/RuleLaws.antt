@@ -5,7 +5,8 @@ use Rattle.rule_ast.specs.Trees.{PlainStatement}
 use Rattle.rule_ast.specs.Plain.{plain_rules}
 use Rattle.rule_ast.specs.declared.statements.RuleSet.{RuleSet}
 use Rattle.rule_grammar.specs.declared.faults.Which.{Which}
-use Rattle.rule_parser.specs.Answers.{Holds, Answers, Gives}
+use Rattle.rule_grammar.specs.Files.{Holds}
+use Rattle.rule_parser.specs.Answers.{Answers, Gives}
 use Rattle.rule_parser.specs.declared.faults.ParseFault.{ParseFault}
 use Rattle.rule_parser.specs.declared.faults.ParseFault.TheVariants as parse
 use Rattle.rule_parser.proofs.Meanings.{one_meaning}

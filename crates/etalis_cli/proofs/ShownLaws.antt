@@ -2,15 +2,15 @@
 use Rattle.std.proofs.Common.{◌≡◌, ℕ, suc, ◌+◌, ◌≤◌, List, [], ◌∷◌, ◌++◌, length, refl, sym, ap, ◌∙◌, append-nil, length-append, arith}
 use Rattle.ev_term.specs.declared.atoms.NameArity.{NameArity}
 use Rattle.rule_ast.specs.Trees.{PlainStatement, Clause, Show}
-use Rattle.rule_tokens.specs.declared.lexemes.Lexeme.TheVariants as t
-use Rattle.rule_tokens.proofs.OneLexing.{few_lexemes}
+use Rattle.rule_lexer.specs.declared.terminals.Terminal.TheVariants as t
+use Rattle.rule_lexer.proofs.OneLexing.{few_terminals}
 use Rattle.rule_grammar.specs.Trees as tree
 use Rattle.rule_grammar.specs.Trees.{Items, Items.OneItem, Items.MoreItem, Statements, Statements.Empty, Statements.Then}
 use Rattle.rule_grammar.specs.Marks.{Marked, Role.Starts, Role.Lists, Role.HasArity}
 use Rattle.rule_grammar.specs.Tokens.{items, statement, statements, number_of, text, bare, quiet}
 use Rattle.rule_grammar.specs.Values.{items_value, statement_value, text_value}
 use Rattle.rule_grammar.proofs.Fronts.{statement_begins}
-use Rattle.rule_parser.specs.Answers.{Holds}
+use Rattle.rule_grammar.specs.Files.{Holds}
 use Rattle.rule_ast.specs.Shown.{shown_names}
 
 shown_append : (xs ys : List PlainStatement) → length (shown_names (xs ++ ys)) ≡ length (shown_names xs) + length (shown_names ys)
@@ -50,7 +50,7 @@ length-bare (m ∷ ms) = ap suc (length-bare ms)
 
 pub few_shown : (bytes : List ℕ) (rules : List PlainStatement) → Holds bytes rules → length (shown_names rules) ≤ length bytes
 few_shown bytes rules h =
-    let few = few_lexemes bytes 0 h.lexemes h.places h.end _ h.lexing in
+    let few = few_terminals bytes 0 h.terminals h.places h.end _ h.lexing in
     let long = statements_long h.tree [] in
     let same = sym (length-bare (text h.tree)) ∙ ap length h.reads.tokens in
     let says = ap (λ rs. length (shown_names rs)) h.says in

@@ -6,7 +6,8 @@ use Rattle.rule_ast.specs.Plain.{plain_rules}
 use Rattle.rule_ast.specs.declared.statements.RuleSet.{RuleSet}
 use Rattle.rule_grammar.specs.declared.faults.Which.{Which}
 use Rattle.rule_grammar.specs.declared.faults.Which.TheVariants.{Statements, Parts, Depth, Variables, TermDepth, TermWidth, Length}
-use Rattle.rule_parser.specs.Answers.{Holds, SyntaxIn, LimitIn}
+use Rattle.rule_grammar.specs.Files.{Holds}
+use Rattle.rule_parser.specs.Answers.{SyntaxIn, LimitIn}
 use Rattle.rule_check.specs.Verdict.{IsSound, IsRefusal}
 use Rattle.rule_check.specs.declared.faults.CheckFault.{CheckFault}
 use Rattle.rule_check.specs.declared.faults.CheckFault.TheVariants as check

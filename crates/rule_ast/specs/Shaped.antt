@@ -1,13 +1,16 @@
--- Which rules are shaped: their numbers are within the limits, their slots have names, and heads and conditions hold only what may stand there.
-use Rattle.std.specs.Prelude.{ℕ, ◌≡◌, ◌^◌, Bool, true, false, not, ◌&&◌, ◌||◌, nat_lt, nat_le, List, [], ◌∷◌, length}
+-- Which rules are shaped: their numbers are within the limits, their slots have names, and heads and conditions hold only what may
+-- stand there.
+use Rattle.std.specs.Prelude.{ℕ, ◌≡◌, Bool, true, false, not, ◌&&◌, ◌||◌, nat_lt, nat_le, List, [], ◌∷◌, length}
 use Rattle.std.specs.List.{list_all, list_any}
 use Rattle.std.specs.Str.{bytes_eq}
+use Rattle.ev_term.specs.declared.terms.TheConstants.{MOST_ARGUMENTS, MOST_SLOTS}
 use Rattle.ev_term.specs.declared.terms.Pat.{Pat, out-Pat}
 use Rattle.ev_term.specs.declared.terms.Pat.TheOpen.{Pat-F}
 use Rattle.ev_term.specs.declared.terms.Pat.TheOpen.Pat-F.{Var, Any, Num, Sym, Text, Comp}
 use Rattle.ev_term.specs.declared.terms.Pat.TheFolds.{fold-Pat}
 use Rattle.ev_term.specs.declared.atoms.PatAtom.{PatAtom}
 use Rattle.ev_term.specs.declared.atoms.NameArity.{NameArity}
+use Rattle.rule_ast.specs.declared.limits.TheConstants.{MOST_STATEMENTS, MOST_TICKS}
 use Rattle.rule_ast.specs.Trees.{PlainCond, Value, Calculate, Compare, AndAlso, OrElse, Negate, PlainPattern, Atom, Both, Either, Where, Exact, Within, Not, PlainRule, PlainStatement, Clause, Show}
 
 abbrev pub parts_pass : (ℕ → Bool) → Bool → Pat-F Bool → Bool
@@ -54,12 +57,12 @@ is_shaped_cond vars (AndAlso l r) = is_shaped_cond vars l && is_shaped_cond vars
 is_shaped_cond vars (OrElse l r) = is_shaped_cond vars l && is_shaped_cond vars r
 is_shaped_cond vars (Negate c) = is_shaped_cond vars c
 
--- a length in ticks
+-- a length, in ticks
 abbrev pub is_length : ℕ → Bool
-is_length q = nat_le q (2 ^ 62)
+is_length q = nat_le q MOST_TICKS
 
 abbrev pub is_shaped_atom : ℕ → PatAtom → Bool
-is_shaped_atom vars a = nat_le (length a.args) 16 && list_all (is_argument vars) a.args
+is_shaped_atom vars a = nat_le (length a.args) MOST_ARGUMENTS && list_all (is_argument vars) a.args
 
 abbrev pub is_shaped_pattern : ℕ → PlainPattern → Bool
 is_shaped_pattern vars (Atom a) = is_shaped_atom vars a
@@ -76,21 +79,21 @@ names_differ [] = true
 names_differ (name ∷ names) = not (list_any (bytes_eq name) names) && names_differ names
 
 abbrev pub is_shaped_head : ℕ → PatAtom → Bool
-is_shaped_head vars head = nat_le (length head.args) 16 && list_all (is_head_argument vars) head.args
+is_shaped_head vars head = nat_le (length head.args) MOST_ARGUMENTS && list_all (is_head_argument vars) head.args
 
 abbrev pub is_shaped_rule : PlainRule → Bool
 is_shaped_rule r =
-    (nat_le (length r.vars) 64 && names_differ r.vars)
+    (nat_le (length r.vars) MOST_SLOTS && names_differ r.vars)
     && (is_shaped_head (length r.vars) r.head && is_shaped_pattern (length r.vars) r.body)
 
 abbrev pub is_shown_name : NameArity → Bool
-is_shown_name n = nat_le n.arity 16
+is_shown_name n = nat_le n.arity MOST_ARGUMENTS
 
 abbrev pub is_shaped_statement : PlainStatement → Bool
 is_shaped_statement (Clause r) = is_shaped_rule r
 is_shaped_statement (Show names) = list_all is_shown_name names
 
--- at most 1,024 statements, each shaped
+-- not too many statements, each shaped
 pub record IsShaped (statements : List PlainStatement) : Type 0 where
-  pub few : nat_le (length statements) 1024 ≡ true
+  pub few : nat_le (length statements) MOST_STATEMENTS ≡ true
   pub each : list_all is_shaped_statement statements ≡ true

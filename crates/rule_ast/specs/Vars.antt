@@ -77,4 +77,5 @@ pub is_in-append : (t : ℕ) (xs ys : List ℕ) → is_in t (xs ++ ys) ≡ (is_i
 unfolding is_in
 is_in-append t xs ys = list_any-append (λ s. s == t) xs ys
 
-pub ruleset slot_lists = (slots_of-Var, slots_of-Any, slots_of-Num, slots_of-Sym, slots_of-Text, slots_of-Comp, is_in-none, is_in-cons, is_in-append)
+pub ruleset slot_lists =
+    (slots_of-Var, slots_of-Any, slots_of-Num, slots_of-Sym, slots_of-Text, slots_of-Comp, is_in-none, is_in-cons, is_in-append)

@@ -1,7 +1,7 @@
 -- Each state can be completed to a text.
 use Rattle.std.proofs.Common.{◌≡◌, ℕ, ◌+◌, List, [], ◌∷◌, refl, ap, ◌∙◌}
-use Rattle.rule_tokens.specs.declared.lexemes.Lexeme.{Lexeme}
-use Rattle.rule_tokens.specs.declared.lexemes.Lexeme.TheVariants as t
+use Rattle.rule_lexer.specs.declared.terminals.Terminal.{Terminal}
+use Rattle.rule_lexer.specs.declared.terminals.Terminal.TheVariants as t
 use Rattle.rule_grammar.specs.Trees.{Literal.Digits, Literal.Minus, Literal.Symbol, Term, Term.Lone, Term.Compound, Arguments}
 use Rattle.rule_grammar.specs.Trees.{HeadTerm, HeadTerm.Fixed, HeadTerms, Heading, Heading.Plainly, Heading.Applied}
 use Rattle.rule_grammar.specs.Trees.{Condition, Condition.OneAll, Condition.MoreAll, All, All.OneNegation, All.MoreNegation, Negation, Negation.Negated, Negation.Compared, Comparison.OneSum, Comparison.TwoSums, Sum, Sum.OneProduct, Sum.MoreProduct, Product, Product.OneUnit, Product.MoreUnit, Unit', Unit'.Value, Unit'.Grouped}
@@ -32,19 +32,19 @@ ends_by m e h = record { more = m ∷ h.more; whole = h.whole; same = e h.more �
 
 -- Lists of arguments, where each list in its place can be completed.
 
-nest_ends : {W O : Type 0} (spell : W → Lexeme) (base : ℕ) (out : O → List Marked → List Marked)
+nest_ends : {W O : Type 0} (spell : W → Terminal) (base : ℕ) (out : O → List Marked → List Marked)
     → ((o : O) (as' : Arguments W) → Ends (λ ms. out o (arguments spell base as' (quiet t.Close ms))))
     → (n : Nest W O) (as' : Arguments W) → Ends (λ ms. nest spell base out n (arguments spell (level base n) as' ms))
 nest_ends spell base out f (Outside o) as' = ends_by (Quiet, t.Close) (λ ms. refl) (f o as')
 nest_ends spell base out f (Inside n b name) as' =
     ends_by (Quiet, t.Close) (λ ms. ap (nest spell base out n) (put_term_reads spell (level base n) b (Compound name as') ms)) (nest_ends spell base out f n (put_term b (Compound name as')))
 
-term_ends : {W O : Type 0} (spell : W → Lexeme) (base : ℕ) (out : O → List Marked → List Marked)
+term_ends : {W O : Type 0} (spell : W → Terminal) (base : ℕ) (out : O → List Marked → List Marked)
     → ((o : O) (as' : Arguments W) → Ends (λ ms. out o (arguments spell base as' (quiet t.Close ms))))
     → (n : Nest W O) (b : Before W) (a : Term W) → Ends (λ ms. nest spell base out n (before spell (level base n) b (term spell Quiet (level base n) a ms)))
 term_ends spell base out f n b a = ends_along (λ ms. ap (nest spell base out n) (put_term_reads spell (level base n) b a ms)) (nest_ends spell base out f n (put_term b a))
 
-list_ends : {W O : Type 0} (spell : W → Lexeme) (base : ℕ) (out : O → List Marked → List Marked)
+list_ends : {W O : Type 0} (spell : W → Terminal) (base : ℕ) (out : O → List Marked → List Marked)
     → ((o : O) (as' : Arguments W) → Ends (λ ms. out o (arguments spell base as' (quiet t.Close ms))))
     → (s : ListState W O) → Ends (list_so_far spell base out s)
 list_ends spell base out f (WantTerm n b) = ends_by (Quiet, t.Number 0) (λ ms. refl) (term_ends spell base out f n b (Lone (Digits 0)))

@@ -1,7 +1,7 @@
 -- The tokens of a tree stand before rest, and none of them begins a statement.
 use Rattle.std.proofs.Common.{◌≡◌, ℕ, ◌+◌, List, [], ◌∷◌, ◌++◌, refl, sym, ap, ◌∙◌, append_assoc}
-use Rattle.rule_tokens.specs.declared.lexemes.Lexeme.{Lexeme}
-use Rattle.rule_tokens.specs.declared.lexemes.Lexeme.TheVariants as t
+use Rattle.rule_lexer.specs.declared.terminals.Terminal.{Terminal}
+use Rattle.rule_lexer.specs.declared.terminals.Terminal.TheVariants as t
 use Rattle.rule_grammar.specs.Trees.{Literal, Literal.Digits, Literal.Minus, Literal.Least, Literal.Symbol, Literal.Quoted, Term, Term.Leaf, Term.Lone, Term.Compound, Arguments, Arguments.First, Arguments.Next}
 use Rattle.rule_grammar.specs.Trees.{HeadTerm, HeadTerm.Leading, HeadTerm.Fixed, HeadTerms, HeadTerms.FirstTerm, HeadTerms.NextTerm, Heading.Plainly, Heading.Applied}
 use Rattle.rule_grammar.specs.Trees.{Condition, Condition.OneAll, Condition.MoreAll, All, All.OneNegation, All.MoreNegation, Negation, Negation.Negated, Negation.Compared, Comparison, Comparison.OneSum, Comparison.TwoSums, Sum, Sum.OneProduct, Sum.MoreProduct, Product, Product.OneUnit, Product.MoreUnit, Unit', Unit'.Value, Unit'.Grouped}
@@ -52,12 +52,12 @@ literal_puts r i (Symbol name) = last (r, t.Name name) i
 literal_puts r i (Quoted text) = last (r, t.Text text) i
 
 mutual
-  term_puts : {W : Type 0} (spell : W → Lexeme) (r : Role) → IsInner r → (d : ℕ) (a : Term W) → Puts (term spell r d a)
+  term_puts : {W : Type 0} (spell : W → Terminal) (r : Role) → IsInner r → (d : ℕ) (a : Term W) → Puts (term spell r d a)
   term_puts spell r i d (Leaf w) = last (r, spell w) i
   term_puts spell r i d (Lone l) = literal_puts r i l
   term_puts spell r i d (Compound name as') = token (r, t.Name name) i (token (Deepens (d + 1), t.Open) tt (before (arguments_put spell (d + 1) as') (last (Quiet, t.Close) tt)))
 
-  arguments_put : {W : Type 0} (spell : W → Lexeme) (d : ℕ) (as' : Arguments W) → Puts (arguments spell d as')
+  arguments_put : {W : Type 0} (spell : W → Terminal) (d : ℕ) (as' : Arguments W) → Puts (arguments spell d as')
   arguments_put spell d (First a) = term_puts spell Quiet tt d a
   arguments_put spell d (Next as' a) = before (arguments_put spell d as') (token (Counts (count_of as' + 1), t.Comma) tt (term_puts spell Quiet tt d a))
 
@@ -124,13 +124,13 @@ items_put : (is : Items) → Puts (items is)
 items_put (OneItem name n) = token (Quiet, t.Name name) tt (token (Quiet, t.Slash) tt (last (HasArity n, t.Number n) tt))
 items_put (MoreItem is name n) = before (items_put is) (token (Lists, t.Comma) tt (token (Quiet, t.Name name) tt (token (Quiet, t.Slash) tt (last (HasArity n, t.Number n) tt))))
 
-abbrev pub IsNoVariable : Lexeme → Type 0
+abbrev pub IsNoVariable : Terminal → Type 0
 IsNoVariable (t.Var name) = ⊥
 IsNoVariable x = Unit {0}
 
 -- a statement's first token alone tells its number, and is no variable
 pub record Begins (f : ℕ → List Marked → List Marked) : Type 0 where
-  pub first : Lexeme
+  pub first : Terminal
   pub no_variable : IsNoVariable first
   pub onward : List Marked → List Marked
   pub puts : Puts onward

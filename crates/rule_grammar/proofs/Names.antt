@@ -6,8 +6,8 @@ use Rattle.std.specs.Str.{bytes_eq}
 use Rattle.std.proofs.lemmas.Bool.{and_parts, and_from, or_parts, or_from, or_left, or_right, not-true, not_from_false, false_from_ne_true, cond_both, ltb-false}
 use Rattle.std.proofs.lemmas.List.Folds.{list_any-append}
 use Rattle.std.proofs.lemmas.Slice.Eq.{bytes_eq-Decides}
-use Rattle.rule_tokens.specs.declared.lexemes.Lexeme.{Lexeme}
-use Rattle.rule_tokens.specs.declared.lexemes.Lexeme.TheVariants as t
+use Rattle.rule_lexer.specs.declared.terminals.Terminal.{Terminal}
+use Rattle.rule_lexer.specs.declared.terminals.Terminal.TheVariants as t
 use Rattle.rule_ast.specs.Shaped.{names_differ}
 use Rattle.rule_grammar.specs.declared.faults.Which.{Which}
 use Rattle.rule_grammar.specs.declared.faults.Which.TheVariants.{Parts, Variables}
@@ -34,7 +34,7 @@ few_names g r e = within_limit 64 (length g.names) Variables (by_role r) (within
 abbrev pub IsKnown : List (List ℕ) → List ℕ → Type 0
 IsKnown names name = list_any (bytes_eq name) names ≡ true
 
-itself : (name : List ℕ) → bytes_eq name name ≡ true
+pub itself : (name : List ℕ) → bytes_eq name name ≡ true
 itself name = (bytes_eq-Decides name name).1 refl
 
 other_way : (a b : List ℕ) → bytes_eq a b ≡ false → bytes_eq b a ≡ false
@@ -74,23 +74,23 @@ name_stays names name old h =
 -- ---- tokens
 
 -- a variable's name is one of these
-abbrev pub TokenKnown : List (List ℕ) → Lexeme → Type 0
+abbrev pub TokenKnown : List (List ℕ) → Terminal → Type 0
 TokenKnown names (t.Var name) = IsKnown names name
 TokenKnown names x = Unit {0}
 
-pub no_variable_known : (names : List (List ℕ)) (x : Lexeme) → IsNoVariable x → TokenKnown names x
+pub no_variable_known : (names : List (List ℕ)) (x : Terminal) → IsNoVariable x → TokenKnown names x
 no_variable_known names (t.Var name) h = absurd h
 no_variable_known names x h = tt
 
-token_differs : (names : List (List ℕ)) (x : Lexeme) → names_differ names ≡ true → names_differ (with_token names x) ≡ true
+token_differs : (names : List (List ℕ)) (x : Terminal) → names_differ names ≡ true → names_differ (with_token names x) ≡ true
 token_differs names (t.Var name) h = name_differs names name h
 token_differs names x h = h
 
-token_known : (names : List (List ℕ)) (x : Lexeme) → TokenKnown (with_token names x) x
+token_known : (names : List (List ℕ)) (x : Terminal) → TokenKnown (with_token names x) x
 token_known names (t.Var name) = name_known names name
 token_known names x = tt
 
-token_stays : (names : List (List ℕ)) (x : Lexeme) (old : List ℕ) → IsKnown names old → IsKnown (with_token names x) old
+token_stays : (names : List (List ℕ)) (x : Terminal) (old : List ℕ) → IsKnown names old → IsKnown (with_token names x) old
 token_stays names (t.Var name) old h = name_stays names name old h
 token_stays names x old h = h
 
@@ -129,7 +129,7 @@ abbrev pub Fits : List (List ℕ) → List Marked → Type 0
 Fits names [] = Unit {0}
 Fits names (m ∷ ms) = (by_role m.0 ≡ None) × TokenKnown names m.1 × Fits names ms
 
-token_kept : (g : Counted) (ms : List Marked) → AllInner ms → (x : Lexeme) → TokenKnown g.names x → TokenKnown (count_all g ms).names x
+token_kept : (g : Counted) (ms : List Marked) → AllInner ms → (x : Terminal) → TokenKnown g.names x → TokenKnown (count_all g ms).names x
 token_kept g ms i (t.Var name) h = stays_known g ms i name h
 token_kept g ms i x h = tt
 

@@ -2,7 +2,7 @@
 use Rattle.std.proofs.Common.{◌≡◌, ◌≢◌, ℕ, List, [], ◌∷◌, ◌++◌, length, Option, Some, None, Result, Ok, Err, refl, sym, ap, ◌∙◌, append_assoc, subst}
 use Rattle.std.proofs.lemmas.List.{append-nil}
 use Rattle.std.proofs.lemmas.Option.{same_Some, MatchOption-at_some}
-use Rattle.rule_tokens.specs.declared.lexemes.Lexeme.{Lexeme}
+use Rattle.rule_lexer.specs.declared.terminals.Terminal.{Terminal}
 use Rattle.rule_grammar.specs.declared.faults.Which.{Which}
 use Rattle.rule_grammar.specs.declared.faults.Fault.{Fault}
 use Rattle.rule_grammar.specs.declared.faults.Fault.TheVariants.{Syntax, Limit}
@@ -21,16 +21,16 @@ start = Between Empty
 -- tokens with their roles lead from one state to another, and none passes a limit
 pub record Leads (g : Counted) (s : State) (front : List Marked) (to : State) : Type 0 where
   pub reads : (more : List Marked) → so_far s (front ++ more) ≡ so_far to more
-  pub walks : (more : List Lexeme) → walk (bare front ++ more) s ≡ walk more to
+  pub walks : (more : List Terminal) → walk (bare front ++ more) s ≡ walk more to
   pub within : IsWithin g front
 
 stays : (g : Counted) (s : State) → Leads g s [] s
 stays g s = record { reads = λ more. refl; walks = λ more. refl; within = tt }
 
-keeps_at : (s : State) (x : Lexeme) (y : Role × State) → step s x ≡ Some y → (more : List Marked) → so_far s ((y.0, x) ∷ more) ≡ so_far y.1 more
+keeps_at : (s : State) (x : Terminal) (y : Role × State) → step s x ≡ Some y → (more : List Marked) → so_far s ((y.0, x) ∷ more) ≡ so_far y.1 more
 keeps_at s x y e more = MatchOption-at_some (Unit {0}) (λ z. so_far s ((z.0, x) ∷ more) ≡ so_far z.1 more) y e (step_keeps s x more)
 
-leads_on : (g : Counted) (s : State) (x : Lexeme) (y : Role × State) (front : List Marked) (to : State)
+leads_on : (g : Counted) (s : State) (x : Terminal) (y : Role × State) (front : List Marked) (to : State)
     → step s x ≡ Some y → passed (count g (y.0, x)) y.0 ≡ None → Leads (count g (y.0, x)) y.1 front to → Leads g s ((y.0, x) ∷ front) to
 leads_on g s x y front to e p l = record {
   reads = λ more. keeps_at s x y e (front ++ more) ∙ l.reads more;
@@ -39,28 +39,28 @@ leads_on g s x y front to e p l = record {
 }
 
 -- no step leads on
-abbrev IsStuck : State → List Lexeme → Type 0
+abbrev IsStuck : State → List Terminal → Type 0
 IsStuck s [] = (ss : Statements) → s ≢ Between ss
 IsStuck s (x ∷ rest) = step s x ≡ None
 
-pub record WholeAfter (g : Counted) (s : State) (ts : List Lexeme) (ss : Statements) : Type 0 where
+pub record WholeAfter (g : Counted) (s : State) (ts : List Terminal) (ss : Statements) : Type 0 where
   pub front : List Marked
   pub whole : bare front ≡ ts
   pub leads : Leads g s front (Between ss)
 
-pub record StuckAfter (g : Counted) (s : State) (ts : List Lexeme) (left : ℕ) : Type 0 where
+pub record StuckAfter (g : Counted) (s : State) (ts : List Terminal) (left : ℕ) : Type 0 where
   pub front : List Marked
-  pub rest : List Lexeme
+  pub rest : List Terminal
   pub to : State
   pub whole : ts ≡ bare front ++ rest
   pub place : length rest ≡ left
   pub leads : Leads g s front to
   pub stuck : IsStuck to rest
 
-pub record OverAfter (g : Counted) (s : State) (ts : List Lexeme) (which : Which) (left : ℕ) : Type 0 where
+pub record OverAfter (g : Counted) (s : State) (ts : List Terminal) (which : Which) (left : ℕ) : Type 0 where
   pub front : List Marked
-  pub token : Lexeme
-  pub rest : List Lexeme
+  pub token : Terminal
+  pub rest : List Terminal
   pub to : State
   pub on : Role × State
   pub whole : ts ≡ bare front ++ token ∷ rest
@@ -69,12 +69,12 @@ pub record OverAfter (g : Counted) (s : State) (ts : List Lexeme) (which : Which
   pub stepped : step to token ≡ Some on
   pub passes : passed (count (count_all g front) (on.0, token)) on.0 ≡ Some which
 
-abbrev Report : Counted → State → List Lexeme → Result Statements Fault → Type 0
+abbrev Report : Counted → State → List Terminal → Result Statements Fault → Type 0
 Report g s ts (Ok ss) = WholeAfter g s ts ss
 Report g s ts (Err (Syntax n)) = StuckAfter g s ts n
 Report g s ts (Err (Limit which n)) = OverAfter g s ts which n
 
-report_on : (g : Counted) (s : State) (x : Lexeme) (y : Role × State) (ts : List Lexeme) (r : Result Statements Fault)
+report_on : (g : Counted) (s : State) (x : Terminal) (y : Role × State) (ts : List Terminal) (r : Result Statements Fault)
     → step s x ≡ Some y → passed (count g (y.0, x)) y.0 ≡ None → Report (count g (y.0, x)) y.1 ts r → Report g s (x ∷ ts) r
 report_on g s x y ts (Ok ss) e p h = record { front = (y.0, x) ∷ h.front; whole = ap (λ xs. x ∷ xs) h.whole; leads = leads_on g s x y h.front (Between ss) e p h.leads }
 report_on g s x y ts (Err (Syntax n)) e p h = record {
@@ -103,7 +103,7 @@ report_end : (g : Counted) (s : State) → Report g s [] (ended s)
 report_end g (Between ss) = record { front = []; whole = refl; leads = stays g (Between ss) }
 report_end g s = record { front = []; rest = []; to = s; whole = refl; place = refl; leads = stays g s; stuck = λ ss e. cc }
 
-report_test : (x : Lexeme) (ts : List Lexeme) (g : Counted) (s : State) (y : Role × State) → step s x ≡ Some y → Report (count g (y.0, x)) y.1 ts (run ts (count g (y.0, x)) y.1)
+report_test : (x : Terminal) (ts : List Terminal) (g : Counted) (s : State) (y : Role × State) → step s x ≡ Some y → Report (count g (y.0, x)) y.1 ts (run ts (count g (y.0, x)) y.1)
     → (o : Option Which) → passed (count g (y.0, x)) y.0 ≡ o → Report g s (x ∷ ts) (unless_passed (run ts (count g (y.0, x)) y.1) (x ∷ ts) o)
 report_test x ts g s y e h None p = report_on g s x y ts (run ts (count g (y.0, x)) y.1) e p h
 report_test x ts g s y e h (Some which) p = record {
@@ -119,12 +119,12 @@ report_test x ts g s y e h (Some which) p = record {
   passes = p;
 }
 
-report_step : (x : Lexeme) (ts : List Lexeme) (g : Counted) (s : State) → ((g' : Counted) (s' : State) → Report g' s' ts (run ts g' s'))
+report_step : (x : Terminal) (ts : List Terminal) (g : Counted) (s : State) → ((g' : Counted) (s' : State) → Report g' s' ts (run ts g' s'))
     → (o : Step) → step s x ≡ o → Report g s (x ∷ ts) (onward (run ts) (x ∷ ts) g x o)
 report_step x ts g s h None e = record { front = []; rest = x ∷ ts; to = s; whole = refl; place = refl; leads = stays g s; stuck = e }
 report_step x ts g s h (Some y) e = report_test x ts g s y e (h (count g (y.0, x)) y.1) (passed (count g (y.0, x)) y.0) refl
 
-report : (ts : List Lexeme) (g : Counted) (s : State) → Report g s ts (run ts g s)
+report : (ts : List Terminal) (g : Counted) (s : State) → Report g s ts (run ts g s)
 report [] g s = report_end g s
 report (x ∷ ts) g s = report_step x ts g s (report ts) (step s x) refl
 
@@ -134,24 +134,24 @@ viable : (front : List Marked) (to : State) → Leads nothing_counted start fron
 viable front to l = let e = ends to in (e.whole, e.more, sym e.same ∙ sym (l.reads e.more))
 
 -- a text doesn't go on where the machine is stuck
-no_text : (front : List Marked) (rest : List Lexeme) (to : State) → Leads nothing_counted start front to → IsStuck to rest → (ss : Statements) → bare (text ss) ≢ bare front ++ rest
+no_text : (front : List Marked) (rest : List Terminal) (to : State) → Leads nothing_counted start front to → IsStuck to rest → (ss : Statements) → bare (text ss) ≢ bare front ++ rest
 no_text front [] to l stuck ss e = stuck ss (same_Some _ _ (sym (l.walks []) ∙ ap (λ xs. walk xs start) (sym e) ∙ text_walks ss))
 no_text front (x ∷ rest) to l stuck ss e =
     let on = sym (text_walks ss) ∙ ap (λ xs. walk xs start) e ∙ l.walks (x ∷ rest) ∙ ap (go rest) stuck in cc
 
-none_goes_on : (front : List Marked) (rest : List Lexeme) (to : State) → Leads nothing_counted start front to → IsStuck to rest → NoneGoesOn (bare front) rest
+none_goes_on : (front : List Marked) (rest : List Terminal) (to : State) → Leads nothing_counted start front to → IsStuck to rest → NoneGoesOn (bare front) rest
 none_goes_on front [] to l stuck = λ ss e. no_text front [] to l stuck ss (e ∙ sym (append-nil (bare front)))
 none_goes_on front (x ∷ rest) to l stuck = λ ss more e. no_text front (x ∷ more) to l stuck ss e
 
 front_is_text : (front : List Marked) (ss : Statements) → Leads nothing_counted start front (Between ss) → front ≡ text ss
 front_is_text front ss l = sym (append-nil front) ∙ l.reads []
 
-viable_on : (front : List Marked) (x : Lexeme) (to : State) (y : Role × State) → Leads nothing_counted start front to → step to x ≡ Some y → Viable (front ++ (y.0, x) ∷ [])
+viable_on : (front : List Marked) (x : Terminal) (to : State) (y : Role × State) → Leads nothing_counted start front to → step to x ≡ Some y → Viable (front ++ (y.0, x) ∷ [])
 viable_on front x to y l e =
     let end = ends y.1 in
     (end.whole, end.more, sym end.same ∙ sym (keeps_at to x y e end.more) ∙ sym (l.reads ((y.0, x) ∷ end.more)) ∙ sym (append_assoc front ((y.0, x) ∷ []) end.more))
 
-pub means : (ts : List Lexeme) → Means ts (run ts nothing_counted start)
+pub means : (ts : List Terminal) → Means ts (run ts nothing_counted start)
 means ts = at (run ts nothing_counted start) (report ts nothing_counted start)
   where
     at : (r : Result Statements Fault) → Report nothing_counted start ts r → Means ts r
@@ -181,11 +181,11 @@ means ts = at (run ts nothing_counted start) (report ts nothing_counted start)
 -- A text has one tree, and a run of it gives that tree.
 
 -- what a walk reads, with its roles
-pub record Traced (xs : List Lexeme) (s to : State) : Type 0 where
+pub record Traced (xs : List Terminal) (s to : State) : Type 0 where
   pub marks : List Marked
   pub reads : (more : List Marked) → so_far s (marks ++ more) ≡ so_far to more
 
-trace : (xs : List Lexeme) (s to : State) → walk xs s ≡ Some to → Traced xs s to
+trace : (xs : List Terminal) (s to : State) → walk xs s ≡ Some to → Traced xs s to
 trace [] s to e = record { marks = []; reads = λ more. ap (λ z. so_far z more) (same_Some _ _ e) }
 trace (x ∷ xs) s to e = at (trace xs) (step s x) refl e
   where
@@ -199,7 +199,7 @@ within_at : (g : Counted) (front : List Marked) (m : Marked) (more : List Marked
 within_at g [] m more h = h.0
 within_at g (x ∷ front) m more h = within_at (count g x) front m more h.1
 
-not_over : (ts : List Lexeme) (ss : Statements) (which : Which) (n : ℕ) → Reads ts ss → OverAfter nothing_counted start ts which n → ⊥
+not_over : (ts : List Terminal) (ss : Statements) (which : Which) (n : ℕ) → Reads ts ss → OverAfter nothing_counted start ts which n → ⊥
 not_over ts ss which n r h =
     let on : walk h.rest h.on.1 ≡ Some (Between ss) =
     sym (ap (go h.rest) h.stepped) ∙ sym (h.leads.walks (h.token ∷ h.rest)) ∙ ap (λ xs. walk xs start) (sym (r.tokens ∙ h.whole)) ∙ text_walks ss in
@@ -209,7 +209,7 @@ not_over ts ss which n r h =
     let none = within_at nothing_counted h.front (h.on.0, h.token) (d.marks ++ []) (subst (IsWithin nothing_counted) same r.within) in
     let clash = sym none ∙ h.passes in cc
 
-pub only : (ts : List Lexeme) (ss : Statements) → Reads ts ss → run ts nothing_counted start ≡ Ok ss
+pub only : (ts : List Terminal) (ss : Statements) → Reads ts ss → run ts nothing_counted start ≡ Ok ss
 only ts ss r = at (run ts nothing_counted start) (report ts nothing_counted start) refl
   where
     at : (o : Result Statements Fault) → Report nothing_counted start ts o → run ts nothing_counted start ≡ o → o ≡ Ok ss

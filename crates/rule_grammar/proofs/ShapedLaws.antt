@@ -1,7 +1,6 @@
 -- A text within the limits says rules that are shaped.
 use Rattle.std.proofs.Common.{◌≡◌, ◌≤◌, ℕ, ℤ, ◌+◌, ◌^◌, Bool, true, false, List, [], ◌∷◌, ◌++◌, length, None, refl, sym, ap, ◌∙◌, subst, length-append, arith, suc}
 use Rattle.std.proofs.lemmas.List.{append-nil}
-use Rattle.std.proofs.lemmas.List.Sums.{sum_by-append}
 use Rattle.std.specs.Prelude.{nat_lt}
 use Rattle.std.specs.List.{list_all}
 use Rattle.std.proofs.lemmas.Bool.{and_from, or_left, or_right, lt-ltb, le-leb}
@@ -10,9 +9,10 @@ use Rattle.ev_term.specs.declared.terms.Pat.{Pat, out-Pat}
 use Rattle.ev_term.specs.declared.terms.Pat.TheOpen.{Pat-F}
 use Rattle.ev_term.specs.declared.terms.Pat.TheVariants as pat
 use Rattle.ev_term.specs.declared.terms.Pat.TheFolds.{fold_out-Pat, map-Pat}
-use Rattle.rule_tokens.specs.declared.lexemes.Lexeme.{Lexeme}
-use Rattle.rule_tokens.specs.declared.lexemes.Lexeme.TheVariants as t
-use Rattle.rule_ast.specs.Trees.{PlainPattern}
+use Rattle.rule_lexer.specs.declared.terminals.Terminal.{Terminal}
+use Rattle.rule_lexer.specs.declared.terminals.Terminal.TheVariants as t
+use Rattle.rule_ast.specs.Trees as plain
+use Rattle.rule_ast.specs.Trees.{PlainPattern, PlainStatement}
 use Rattle.rule_ast.specs.Shaped.{parts_pass, passes, is_variable, is_head_argument, is_shaped_cond, is_length, is_shaped_pattern, names_differ, is_shaped_head, is_shaped_rule, is_shown_name, is_shaped_statement, IsShaped}
 use Rattle.rule_grammar.specs.declared.faults.Which.TheVariants as which
 use Rattle.rule_grammar.specs.Trees.{Literal, Literal.Digits, Literal.Minus, Literal.Least, Literal.Symbol, Literal.Quoted, Term, Term.Leaf, Term.Lone, Term.Compound, Arguments, Arguments.First, Arguments.Next}
@@ -26,7 +26,7 @@ use Rattle.rule_grammar.specs.Marks.{Role.Quiet, Role.Starts, Role.Single, Role.
 use Rattle.rule_grammar.specs.Tokens.{quiet, binary, a_part, literal, count_of, term, arguments, wanted, never, head_term, count_of_terms, head_terms, heading, adding, scaling, joint, condition, all, negation, comparison, sum, product, unit, tree, chain, part, round, items, statement, number_of, statements, text, bare}
 use Rattle.rule_grammar.specs.Values.{slot_of, variable, wanted_value, never_value, literal_value, term_value, arguments_value, head_term_value, head_terms_value, heading_value, condition_value, all_value, negation_value, comparison_value, sum_value, product_value, unit_value, joined_value, tree_value, chain_value, part_value, round_value, items_value, names_of, statement_value, text_value}
 use Rattle.rule_grammar.specs.Texts.{IsWithin}
-use Rattle.rule_grammar.specs.Shown.{names_shown, shown_count}
+use Rattle.rule_ast.specs.Shown.{shown_names}
 use Rattle.rule_grammar.proofs.Fronts.{Begins, statement_begins}
 use Rattle.rule_grammar.proofs.Names.{within_limit, few_names, IsKnown, TokenKnown, Fits, no_variable_known, slot_within, rest_within, named}
 
@@ -68,7 +68,7 @@ sixteen n e = (within_limit 16 n which.TermWidth None e).0
 
 -- ---- terms
 
-abbrev LeafPasses : {W : Type 0} → (ℕ → Bool) → Bool → List (List ℕ) → (W → Lexeme) → (W → Pat) → Type 0
+abbrev LeafPasses : {W : Type 0} → (ℕ → Bool) → Bool → List (List ℕ) → (W → Terminal) → (W → Pat) → Type 0
 LeafPasses {W} f b names spell leaf = (w : W) → TokenKnown names (spell w) → passes f b (leaf w) ≡ true
 
 literal_passes : (f : ℕ → Bool) (b : Bool) (l : Literal) → passes f b (literal_value l) ≡ true
@@ -92,7 +92,7 @@ pub record ListFits (f : ℕ → Bool) (b : Bool) (names : List (List ℕ)) (arg
   pub over : Fits names rest
 
 mutual
-  term_fits : {W : Type 0} (f : ℕ → Bool) (b : Bool) (names : List (List ℕ)) (spell : W → Lexeme) (leaf : W → Pat) → LeafPasses f b names spell leaf
+  term_fits : {W : Type 0} (f : ℕ → Bool) (b : Bool) (names : List (List ℕ)) (spell : W → Terminal) (leaf : W → Pat) → LeafPasses f b names spell leaf
       → (r : Role) (d : ℕ) (a : Term W) (rest : List Marked) → Fits names (term spell r d a rest) → (passes f b (term_value leaf a) ≡ true) × Fits names rest
   term_fits f b names spell leaf k r d (Leaf w) rest h = (k w h.1, h.2)
   term_fits f b names spell leaf k r d (Lone l) rest h = (literal_passes f b l, literal_over names r l rest h)
@@ -100,7 +100,7 @@ mutual
       let args = arguments_fit f b names spell leaf k (d + 1) as' (quiet t.Close rest) h.2.2 in
       (passes-Comp f b name (arguments_value leaf as') ∙ args.each, args.over.2)
 
-  arguments_fit : {W : Type 0} (f : ℕ → Bool) (b : Bool) (names : List (List ℕ)) (spell : W → Lexeme) (leaf : W → Pat) → LeafPasses f b names spell leaf
+  arguments_fit : {W : Type 0} (f : ℕ → Bool) (b : Bool) (names : List (List ℕ)) (spell : W → Terminal) (leaf : W → Pat) → LeafPasses f b names spell leaf
       → (d : ℕ) (as' : Arguments W) (rest : List Marked) → Fits names (arguments spell d as' rest) → ListFits f b names (arguments_value leaf as') (count_of as') rest
   arguments_fit f b names spell leaf k d (First a) rest h =
       let one = term_fits f b names spell leaf k Quiet d a rest h in
@@ -320,6 +320,12 @@ shaped_text ss h =
 
 -- ---- how many names are shown
 
+shown_append : (xs ys : List PlainStatement) → length (shown_names (xs ++ ys)) ≡ length (shown_names xs) + length (shown_names ys)
+shown_append [] ys = omega arith
+shown_append (plain.Clause r ∷ xs) ys = shown_append xs ys
+shown_append (plain.Show names ∷ xs) ys =
+    omega (arith, length-append names (shown_names (xs ++ ys)), length-append names (shown_names xs), shown_append xs ys)
+
 items_long : (is : Items) (rest : List Marked) → length (items_value is) + length rest ≤ length (items is rest)
 items_long (OneItem name n) rest = omega arith
 items_long (MoreItem is name n) rest =
@@ -329,20 +335,22 @@ items_long (MoreItem is name n) rest =
 begins_long : {f : ℕ → List Marked → List Marked} (b : Begins f) (n : ℕ) (rest : List Marked) → length rest ≤ length (f n rest)
 begins_long b n rest = omega (arith, ap length (begins_so b n rest), length-append b.puts.front rest)
 
-statement_long : (n : ℕ) (s : Statement) (rest : List Marked) → names_shown (statement_value s) + length rest ≤ length (statement n s rest)
+statement_long : (n : ℕ) (s : Statement) (rest : List Marked) → length (shown_names (statement_value s ∷ [])) + length rest ≤ length (statement n s rest)
 statement_long n (Clause h p) rest = let b = begins_long (statement_begins (Clause h p)) n rest in omega arith
-statement_long n (Shown is) rest = let one = items_long is (quiet t.End rest) in omega arith
+statement_long n (Shown is) rest =
+    let one = items_long is (quiet t.End rest) in
+    let same = ap length (append-nil (items_value is)) in omega arith
 
-statements_long : (ss : Statements) (rest : List Marked) → shown_count (text_value ss) + length rest ≤ length (statements ss rest)
+statements_long : (ss : Statements) (rest : List Marked) → length (shown_names (text_value ss)) + length rest ≤ length (statements ss rest)
 statements_long Empty rest = omega arith
 statements_long (Then ss s) rest =
     let old = statements_long ss (statement (number_of ss + 1) s rest) in
     let one = statement_long (number_of ss + 1) s rest in
-    omega (arith, sum_by-append names_shown (text_value ss) (statement_value s ∷ []))
+    omega (arith, shown_append (text_value ss) (statement_value s ∷ []))
 
 length-bare : (ms : List Marked) → length (bare ms) ≡ length ms
 length-bare [] = refl
 length-bare (m ∷ ms) = ap (λ n. suc n) (length-bare ms)
 
-pub shown_few : (ss : Statements) → shown_count (text_value ss) ≤ length (bare (text ss))
+pub shown_few : (ss : Statements) → length (shown_names (text_value ss)) ≤ length (bare (text ss))
 shown_few ss = let few = statements_long ss [] in omega (arith, length-bare (text ss))

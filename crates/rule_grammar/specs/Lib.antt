@@ -3,6 +3,6 @@ pub mod Marks
 pub mod Tokens
 pub mod Values
 pub mod Texts
+pub mod Files
 pub mod Lists
 pub mod Machine
-pub mod Shown

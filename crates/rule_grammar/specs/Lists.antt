@@ -1,7 +1,7 @@
 -- A machine that reads lists of arguments token by token. W is what may stand for a term, O what the outermost list stands in.
 use Rattle.std.specs.Prelude.{ℕ, ◌+◌, List, ◌∷◌, Option, Some, None}
-use Rattle.rule_tokens.specs.declared.lexemes.Lexeme.{Lexeme}
-use Rattle.rule_tokens.specs.declared.lexemes.Lexeme.TheVariants as t
+use Rattle.rule_lexer.specs.declared.terminals.Terminal.{Terminal}
+use Rattle.rule_lexer.specs.declared.terminals.Terminal.TheVariants as t
 use Rattle.rule_grammar.specs.Trees.{Literal.Digits, Literal.Minus, Literal.Least, Literal.Symbol, Literal.Quoted, Term, Term.Leaf, Term.Lone, Term.Compound, Arguments, Arguments.First, Arguments.Next}
 use Rattle.rule_grammar.specs.Marks.{Role, Marked}
 use Rattle.rule_grammar.specs.Marks.{Role.Quiet, Role.Deepens, Role.Counts}
@@ -46,13 +46,13 @@ have_leaf n b None = Stuck
 have_leaf n b (Some w) = have n b (Leaf w)
 
 -- a token behind an argument
-abbrev pub behind_terms : {W O : Type 0} → Nest W O → Arguments W → Lexeme → Turn W O
+abbrev pub behind_terms : {W O : Type 0} → Nest W O → Arguments W → Terminal → Turn W O
 behind_terms n as' t.Comma = Stay (Counts (count_of as' + 1)) (WantTerm n (Behind as'))
 behind_terms (Outside o) as' t.Close = Leave o as'
 behind_terms (Inside n b name) as' t.Close = have n b (Compound name as')
 behind_terms n as' x = Stuck
 
-abbrev pub list_step : {W O : Type 0} → (Lexeme → Option W) → ℕ → ListState W O → Lexeme → Turn W O
+abbrev pub list_step : {W O : Type 0} → (Terminal → Option W) → ℕ → ListState W O → Terminal → Turn W O
 list_step reads base (WantTerm n b) (t.Number k) = have n b (Lone (Digits k))
 list_step reads base (WantTerm n b) t.Minus = Stay Quiet (WantDigits n b)
 list_step reads base (WantTerm n b) (t.Text text) = have n b (Lone (Quoted text))
@@ -66,16 +66,16 @@ list_step reads base (HaveName n b name) x = behind_terms n (put_term b (Lone (S
 list_step reads base (HaveTerms n as') x = behind_terms n as' x
 
 -- all that was read, and then rest; `spell` is the token of what stands for a term, `out` what stands before the outermost list
-abbrev pub before : {W : Type 0} → (W → Lexeme) → ℕ → Before W → List Marked → List Marked
+abbrev pub before : {W : Type 0} → (W → Terminal) → ℕ → Before W → List Marked → List Marked
 before spell d Start rest = rest
 before spell d (Behind as') rest = arguments spell d as' ((Counts (count_of as' + 1), t.Comma) ∷ rest)
 
-abbrev pub nest : {W O : Type 0} → (W → Lexeme) → ℕ → (O → List Marked → List Marked) → Nest W O → List Marked → List Marked
+abbrev pub nest : {W O : Type 0} → (W → Terminal) → ℕ → (O → List Marked → List Marked) → Nest W O → List Marked → List Marked
 nest spell base out (Outside o) rest = out o rest
 nest spell base out (Inside n b name) rest =
     nest spell base out n (before spell (level base n) b (quiet (t.Name name) ((Deepens (level base n + 1), t.Open) ∷ rest)))
 
-abbrev pub list_so_far : {W O : Type 0} → (W → Lexeme) → ℕ → (O → List Marked → List Marked) → ListState W O → List Marked → List Marked
+abbrev pub list_so_far : {W O : Type 0} → (W → Terminal) → ℕ → (O → List Marked → List Marked) → ListState W O → List Marked → List Marked
 list_so_far spell base out (WantTerm n b) rest = nest spell base out n (before spell (level base n) b rest)
 list_so_far spell base out (WantDigits n b) rest = nest spell base out n (before spell (level base n) b (quiet t.Minus rest))
 list_so_far spell base out (HaveName n b name) rest = nest spell base out n (before spell (level base n) b (quiet (t.Name name) rest))

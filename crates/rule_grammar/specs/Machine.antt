@@ -1,8 +1,8 @@
 -- A machine that reads a text token by token. A state is what has been read, held as trees.
 use Rattle.std.specs.Prelude.{ℕ, ◌+◌, List, [], ◌∷◌, Option, Some, None, Result, Ok, Err, length}
 use Rattle.rule_ast.specs.declared.conditions.Cmp.{Cmp}
-use Rattle.rule_tokens.specs.declared.lexemes.Lexeme.{Lexeme}
-use Rattle.rule_tokens.specs.declared.lexemes.Lexeme.TheVariants as t
+use Rattle.rule_lexer.specs.declared.terminals.Terminal.{Terminal}
+use Rattle.rule_lexer.specs.declared.terminals.Terminal.TheVariants as t
 use Rattle.rule_grammar.specs.declared.faults.Which.{Which}
 use Rattle.rule_grammar.specs.declared.faults.Fault.{Fault}
 use Rattle.rule_grammar.specs.declared.faults.Fault.TheVariants.{Syntax, Limit}
@@ -195,7 +195,7 @@ abbrev pub first_unit : CompareHead → ProductHead
 first_unit c = FirstUnit (FirstProduct c)
 
 -- a token behind a pattern, under the open brackets
-abbrev pub behind : Stack → Tree → Lexeme → Step
+abbrev pub behind : Stack → Tree → Terminal → Step
 behind k p t.Where = to Binary (WantNegation (first_all (InWhere p k)))
 behind (Body ss h) p t.End = to Quiet (Between (Then ss (Clause h p)))
 behind (InRound h k) p t.Close = to Quiet (HaveRound h (Bracketed p) k)
@@ -205,48 +205,48 @@ behind (InAfter h i b k) p t.Square = to Quiet (HavePart (put h (Without i b p))
 behind k p x = None
 
 -- a token behind a chain
-abbrev pub behind_chain : Stack → Chain → Lexeme → Step
+abbrev pub behind_chain : Stack → Chain → Terminal → Step
 behind_chain k c (t.Op op) = to Binary (WantPart (NextPart c (Joined op)) k)
 behind_chain k c t.Or = to Binary (WantPart (NextPart c Otherwise) k)
 behind_chain k c x = behind k (Plain c) x
 
 -- a token behind each level of a condition
-abbrev pub behind_condition : Where' → Condition → Lexeme → Step
+abbrev pub behind_condition : Where' → Condition → Terminal → Step
 behind_condition w c t.Either = to Binary (WantNegation (NoBang (FirstNegation (NextAll w c))))
 behind_condition (InWhere p k) c x = behind k (Filtered p c) x
 behind_condition (InGroup h) c t.Close = to Quiet (have_unit h (Grouped c))
 behind_condition (InGroup h) c x = None
 
-abbrev pub behind_all : OrHead → All → Lexeme → Step
+abbrev pub behind_all : OrHead → All → Terminal → Step
 behind_all o a t.Both = to Binary (WantNegation (NoBang (NextNegation o a)))
 behind_all o a x = behind_condition (over_condition o a).0 (over_condition o a).1 x
 
-abbrev pub behind_negation : AndHead → Negation → Lexeme → Step
+abbrev pub behind_negation : AndHead → Negation → Terminal → Step
 behind_negation h n x = behind_all (over_all h n).0 (over_all h n).1 x
 
-abbrev pub behind_comparison : NotHead → Comparison → Lexeme → Step
+abbrev pub behind_comparison : NotHead → Comparison → Terminal → Step
 behind_comparison h c x = behind_negation (over_negation h (Compared c)).0 (over_negation h (Compared c)).1 x
 
-abbrev pub behind_sum : CompareHead → Sum → Lexeme → Step
+abbrev pub behind_sum : CompareHead → Sum → Terminal → Step
 behind_sum (FirstSum n) s (t.Compare cmp) = to Binary (WantUnit (first_unit (SecondSum n s cmp)))
 behind_sum c s x = behind_comparison (over_sum c s).0 (over_sum c s).1 x
 
-abbrev pub behind_all_products : CompareHead × Sum → Lexeme → Step
+abbrev pub behind_all_products : CompareHead × Sum → Terminal → Step
 behind_all_products (c, s) t.Plus = to Binary (WantUnit (FirstUnit (NextProduct c s Added)))
 behind_all_products (c, s) t.Minus = to Binary (WantUnit (FirstUnit (NextProduct c s Taken)))
 behind_all_products (c, s) x = behind_sum c s x
 
-abbrev pub behind_product : SumHead → Product → Lexeme → Step
+abbrev pub behind_product : SumHead → Product → Terminal → Step
 behind_product h p t.Star = to Binary (WantUnit (NextUnit h p Times))
 behind_product h p t.Slash = to Binary (WantUnit (NextUnit h p Over))
 behind_product h p t.Percent = to Binary (WantUnit (NextUnit h p Modulo))
 behind_product h p x = behind_all_products (over_product h p) x
 
-abbrev pub behind_unit : State → Lexeme → Step
+abbrev pub behind_unit : State → Terminal → Step
 behind_unit (HaveProduct h p) x = behind_product h p x
 behind_unit s x = None
 
-abbrev pub want_unit : ProductHead → Lexeme → Step
+abbrev pub want_unit : ProductHead → Terminal → Step
 want_unit h (t.Var name) = to Single (have_unit h (Value (Leaf name)))
 want_unit h (t.Number n) = to Single (have_unit h (Value (Lone (Digits n))))
 want_unit h t.Minus = to Single (UnitMinus h)
@@ -256,15 +256,15 @@ want_unit h t.Open = to (Nests (product_depth h + 1)) (WantNegation (first_all (
 want_unit h x = None
 
 -- what may stand for a term
-abbrev pub reads_nothing : Lexeme → Option ⊥
+abbrev pub reads_nothing : Terminal → Option ⊥
 reads_nothing x = None
 
-abbrev pub reads_wanted : Lexeme → Option Wanted
+abbrev pub reads_wanted : Terminal → Option Wanted
 reads_wanted (t.Var name) = Some (Variable name)
 reads_wanted t.Wild = Some Anything
 reads_wanted x = None
 
-abbrev pub reads_variable : Lexeme → Option (List ℕ)
+abbrev pub reads_variable : Terminal → Option (List ℕ)
 reads_variable (t.Var name) = Some name
 reads_variable x = None
 
@@ -287,12 +287,12 @@ in_operand Stuck = None
 abbrev pub have_head_term : Statements → List ℕ → TermsHead → HeadTerm → Step
 have_head_term ss name h a = to Quiet (HaveHeadTerms ss name (put_head h a))
 
-abbrev pub behind_head_terms : Statements → List ℕ → HeadTerms → Lexeme → Step
+abbrev pub behind_head_terms : Statements → List ℕ → HeadTerms → Terminal → Step
 behind_head_terms ss name as' t.Comma = to (Counts (count_of_terms as' + 1)) (WantHeadTerm ss name (NextOfHead as'))
 behind_head_terms ss name as' t.Close = to Quiet (HaveHead ss (Applied name as'))
 behind_head_terms ss name as' x = None
 
-abbrev pub step : State → Lexeme → Step
+abbrev pub step : State → Terminal → Step
 step (Between ss) (t.Name name) = to (Starts (number_of ss + 1)) (HeadName ss name)
 step (Between ss) t.Show = to (Starts (number_of ss + 1)) (WantItem ss FirstShown)
 step (Between ss) x = None
@@ -358,15 +358,15 @@ ended (Between ss) = Ok ss
 ended s = Err (Syntax 0)
 
 -- on from what a step gave, by a given run of the tokens after it
-abbrev pub unless_passed : Result Statements Fault → List Lexeme → Option Which → Result Statements Fault
+abbrev pub unless_passed : Result Statements Fault → List Terminal → Option Which → Result Statements Fault
 unless_passed r here None = r
 unless_passed r here (Some which) = Err (Limit which (length here))
 
-abbrev pub onward : (Counted → State → Result Statements Fault) → List Lexeme → Counted → Lexeme → Step → Result Statements Fault
+abbrev pub onward : (Counted → State → Result Statements Fault) → List Terminal → Counted → Terminal → Step → Result Statements Fault
 onward go here g x None = Err (Syntax (length here))
 onward go here g x (Some y) = unless_passed (go (count g (y.0, x)) y.1) here (passed (count g (y.0, x)) y.0)
 
-abbrev pub run : List Lexeme → Counted → State → Result Statements Fault
+abbrev pub run : List Terminal → Counted → State → Result Statements Fault
 run [] g s = ended s
 run (x ∷ xs) g s = onward (run xs) (x ∷ xs) g x (step s x)
 
@@ -383,7 +383,7 @@ abbrev pub items_head : ItemsHead → List Marked → List Marked
 items_head FirstShown rest = rest
 items_head (NextShown is) rest = items is ((Lists, t.Comma) ∷ rest)
 
-abbrev pub begun : Statements → Lexeme → List Marked → List Marked
+abbrev pub begun : Statements → Terminal → List Marked → List Marked
 begun ss x rest = statements ss ((Starts (number_of ss + 1), x) ∷ rest)
 
 abbrev pub stack : Stack → List Marked → List Marked
@@ -391,9 +391,12 @@ stack (Body ss h) rest = statements ss (heading (number_of ss + 1) h (quiet t.Ar
 stack (InRound h k) rest = stack k (chain_head (depth k) h ((Nests (depth k + 1), t.Open) ∷ rest))
 stack (InNot h k) rest = stack k (chain_head (depth k) h (a_part t.Not ((Nests (depth k + 1), t.Open) ∷ rest)))
 stack (InBefore h i k) rest =
-    stack k (chain_head (depth k) h (a_part t.Not ((Nests (depth k + 1), t.Open) ∷ tree (depth k + 1) i (quiet t.Close ((Nests (depth k + 1), t.Limits) ∷ rest)))))
+    stack k (chain_head (depth k) h (a_part t.Not ((Nests (depth k + 1), t.Open)
+    ∷ tree (depth k + 1) i (quiet t.Close ((Nests (depth k + 1), t.Limits) ∷ rest)))))
 stack (InAfter h i b k) rest =
-    stack k (chain_head (depth k) h (a_part t.Not ((Nests (depth k + 1), t.Open) ∷ tree (depth k + 1) i (quiet t.Close ((Nests (depth k + 1), t.Limits) ∷ tree (depth k + 1) b (quiet t.Comma rest))))))
+    stack k (chain_head (depth k) h (a_part t.Not ((Nests (depth k + 1), t.Open)
+    ∷ tree (depth k + 1) i (quiet t.Close ((Nests (depth k + 1), t.Limits)
+    ∷ tree (depth k + 1) b (quiet t.Comma rest))))))
 
 abbrev mutual
   pub where_head : Where' → List Marked → List Marked
@@ -450,7 +453,8 @@ so_far (WantPart h k) rest = stack k (chain_head (depth k) h rest)
 so_far (AtomName h k name) rest = stack k (chain_head (depth k) h (a_part (t.Name name) rest))
 so_far (InAtom s) rest = list_so_far wanted 1 atom_place s rest
 so_far (WantOpen h k) rest = stack k (chain_head (depth k) h (a_part t.Not rest))
-so_far (WantLimits h i k) rest = stack k (chain_head (depth k) h (a_part t.Not ((Nests (depth k + 1), t.Open) ∷ tree (depth k + 1) i (quiet t.Close rest))))
+so_far (WantLimits h i k) rest =
+    stack k (chain_head (depth k) h (a_part t.Not ((Nests (depth k + 1), t.Open) ∷ tree (depth k + 1) i (quiet t.Close rest))))
 so_far (HavePart c k) rest = stack k (chain (depth k) c rest)
 so_far (HaveRound h r k) rest = stack k (chain_head (depth k) h (round (depth k) r rest))
 so_far (WantExact h r k) rest = stack k (chain_head (depth k) h (round (depth k) r (a_part t.Length rest)))

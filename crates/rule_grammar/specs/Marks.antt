@@ -1,9 +1,12 @@
 -- What a token of a text counts as, and which token passes a limit.
-use Rattle.std.specs.Prelude.{ℕ, ◌+◌, ◌^◌, cond, nat_lt, List, [], ◌∷◌, ◌++◌, length, Option, Some, None}
+use Rattle.std.specs.Prelude.{ℕ, ◌+◌, cond, nat_lt, List, [], ◌∷◌, ◌++◌, length, Option, Some, None}
 use Rattle.std.specs.List.{list_any}
 use Rattle.std.specs.Str.{bytes_eq}
-use Rattle.rule_tokens.specs.declared.lexemes.Lexeme.{Lexeme}
-use Rattle.rule_tokens.specs.declared.lexemes.Lexeme.TheVariants.{Var}
+use Rattle.ev_term.specs.declared.terms.TheConstants.{MOST_ARGUMENTS, MOST_DEPTH, MOST_SLOTS}
+use Rattle.rule_ast.specs.declared.limits.TheConstants.{MOST_STATEMENTS, MOST_TICKS}
+use Rattle.rule_lexer.specs.declared.terminals.Terminal.{Terminal}
+use Rattle.rule_grammar.specs.declared.limits.TheConstants.{MOST_PARTS, MOST_BRACKETS}
+use Rattle.rule_lexer.specs.declared.terminals.Terminal.TheVariants.{Var}
 use Rattle.rule_grammar.specs.declared.faults.Which.{Which}
 use Rattle.rule_grammar.specs.declared.faults.Which.TheVariants.{Statements, Parts, Depth, Variables, TermDepth, TermWidth, Length}
 
@@ -21,7 +24,7 @@ pub data Role : Type 0 where
 
 -- a token with its role
 abbrev pub Marked : Type 0
-Marked = Role × Lexeme
+Marked = Role × Terminal
 
 -- the parts of a rule so far, and its variables in the order of first occurrence
 pub record Counted : Type 0 where
@@ -35,11 +38,11 @@ nothing_counted = record { parts = 0; names = [] }
 abbrev pub with_name : List (List ℕ) → List ℕ → List (List ℕ)
 with_name names name = cond (list_any (bytes_eq name) names) names (names ++ name ∷ [])
 
-abbrev pub with_token : List (List ℕ) → Lexeme → List (List ℕ)
+abbrev pub with_token : List (List ℕ) → Terminal → List (List ℕ)
 with_token names (Var name) = with_name names name
 with_token names t = names
 
-abbrev pub with_parts : Counted → ℕ → Lexeme → Counted
+abbrev pub with_parts : Counted → ℕ → Terminal → Counted
 with_parts g n t = record { parts = n; names = with_token g.names t }
 
 abbrev pub count : Counted → Marked → Counted
@@ -57,13 +60,13 @@ abbrev pub over : ℕ → ℕ → Which → Option Which → Option Which
 over most n w o = cond (nat_lt most n) (Some w) o
 
 abbrev pub by_role : Role → Option Which
-by_role (Starts n) = over 1024 n Statements None
-by_role (Nests n) = over 32 n Depth None
-by_role (Deepens n) = over 16 n TermDepth None
-by_role (Counts n) = over 16 n TermWidth None
-by_role (HasArity n) = over 16 n TermWidth None
-by_role (Lasts q) = over (2 ^ 62) q Length None
+by_role (Starts n) = over MOST_STATEMENTS n Statements None
+by_role (Nests n) = over MOST_BRACKETS n Depth None
+by_role (Deepens n) = over MOST_DEPTH n TermDepth None
+by_role (Counts n) = over MOST_ARGUMENTS n TermWidth None
+by_role (HasArity n) = over MOST_ARGUMENTS n TermWidth None
+by_role (Lasts q) = over MOST_TICKS q Length None
 by_role r = None
 
 abbrev pub passed : Counted → Role → Option Which
-passed g r = over 256 g.parts Parts (over 64 (length g.names) Variables (by_role r))
+passed g r = over MOST_PARTS g.parts Parts (over MOST_SLOTS (length g.names) Variables (by_role r))

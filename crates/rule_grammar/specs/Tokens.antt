@@ -1,7 +1,7 @@
 -- The tokens of each tree, with their roles, and then rest.
 use Rattle.std.specs.Prelude.{ℕ, ◌+◌, List, [], ◌∷◌}
-use Rattle.rule_tokens.specs.declared.lexemes.Lexeme.{Lexeme}
-use Rattle.rule_tokens.specs.declared.lexemes.Lexeme.TheVariants as t
+use Rattle.rule_lexer.specs.declared.terminals.Terminal.{Terminal}
+use Rattle.rule_lexer.specs.declared.terminals.Terminal.TheVariants as t
 use Rattle.rule_grammar.specs.Trees.{Literal, Literal.Digits, Literal.Minus, Literal.Least, Literal.Symbol, Literal.Quoted, Term, Term.Leaf, Term.Lone, Term.Compound, Arguments, Arguments.First, Arguments.Next}
 use Rattle.rule_grammar.specs.Trees.{Wanted, Wanted.Variable, Wanted.Anything, HeadTerm, HeadTerm.Leading, HeadTerm.Fixed, HeadTerms, HeadTerms.FirstTerm, HeadTerms.NextTerm, Heading, Heading.Plainly, Heading.Applied}
 use Rattle.rule_grammar.specs.Trees.{Adding, Adding.Added, Adding.Taken, Scaling, Scaling.Times, Scaling.Over, Scaling.Modulo, Joint, Joint.Joined, Joint.Otherwise}
@@ -12,13 +12,13 @@ use Rattle.rule_grammar.specs.Marks.{Role, Marked}
 use Rattle.rule_grammar.specs.Marks.{Role.Quiet, Role.Starts, Role.Single, Role.Binary, Role.Nests, Role.Deepens, Role.Counts, Role.Lists, Role.Lasts, Role.HasArity}
 
 -- a token that counts as nothing
-abbrev pub quiet : Lexeme → List Marked → List Marked
+abbrev pub quiet : Terminal → List Marked → List Marked
 quiet x rest = (Quiet, x) ∷ rest
 
-abbrev pub binary : Lexeme → List Marked → List Marked
+abbrev pub binary : Terminal → List Marked → List Marked
 binary x rest = (Binary, x) ∷ rest
 
-abbrev pub a_part : Lexeme → List Marked → List Marked
+abbrev pub a_part : Terminal → List Marked → List Marked
 a_part x rest = (Single, x) ∷ rest
 
 -- the first token of a term has a role of its own
@@ -35,20 +35,20 @@ count_of (Next as' a) = count_of as' + 1
 
 -- terms at some depth; `spell` is the token of what stands for a term
 abbrev mutual
-  pub term : {W : Type 0} → (W → Lexeme) → Role → ℕ → Term W → List Marked → List Marked
+  pub term : {W : Type 0} → (W → Terminal) → Role → ℕ → Term W → List Marked → List Marked
   term spell r d (Leaf w) rest = (r, spell w) ∷ rest
   term spell r d (Lone l) rest = literal r l rest
   term spell r d (Compound name as') rest = (r, t.Name name) ∷ (Deepens (d + 1), t.Open) ∷ arguments spell (d + 1) as' (quiet t.Close rest)
 
-  pub arguments : {W : Type 0} → (W → Lexeme) → ℕ → Arguments W → List Marked → List Marked
+  pub arguments : {W : Type 0} → (W → Terminal) → ℕ → Arguments W → List Marked → List Marked
   arguments spell d (First a) rest = term spell Quiet d a rest
   arguments spell d (Next as' a) rest = arguments spell d as' ((Counts (count_of as' + 1), t.Comma) ∷ term spell Quiet d a rest)
 
-abbrev pub wanted : Wanted → Lexeme
+abbrev pub wanted : Wanted → Terminal
 wanted (Variable name) = t.Var name
 wanted Anything = t.Wild
 
-abbrev pub never : ⊥ → Lexeme
+abbrev pub never : ⊥ → Terminal
 never h = absurd h
 
 abbrev pub head_term : HeadTerm → List Marked → List Marked
@@ -68,16 +68,16 @@ abbrev pub heading : ℕ → Heading → List Marked → List Marked
 heading n (Plainly name) rest = (Starts n, t.Name name) ∷ rest
 heading n (Applied name as') rest = (Starts n, t.Name name) ∷ quiet t.Open (head_terms as' (quiet t.Close rest))
 
-abbrev pub adding : Adding → Lexeme
+abbrev pub adding : Adding → Terminal
 adding Added = t.Plus
 adding Taken = t.Minus
 
-abbrev pub scaling : Scaling → Lexeme
+abbrev pub scaling : Scaling → Terminal
 scaling Times = t.Star
 scaling Over = t.Slash
 scaling Modulo = t.Percent
 
-abbrev pub joint : Joint → Lexeme
+abbrev pub joint : Joint → Terminal
 joint (Joined op) = t.Op op
 joint Otherwise = t.Or
 
@@ -156,6 +156,6 @@ abbrev pub text : Statements → List Marked
 text ss = statements ss []
 
 -- the tokens without their roles
-abbrev pub bare : List Marked → List Lexeme
+abbrev pub bare : List Marked → List Terminal
 bare [] = []
 bare (m ∷ ms) = m.1 ∷ bare ms

@@ -3,7 +3,7 @@ use Rattle.std.specs.Prelude.{ℕ, List}
 use Rattle.ev_term.specs.declared.operators.Op.{Op}
 use Rattle.rule_ast.specs.declared.conditions.Cmp.{Cmp}
 
--- a term that is one word: digits; `-` and digits; `-` and 2^63; a name; a text
+-- a term that is one word: digits; `-` and digits; `-` and the limit of numbers; a name; a text
 pub data Literal : Type 0 where
   Digits : ℕ → Literal
   Minus : ℕ → Literal

@@ -1,5 +1,5 @@
 -- What a text says: brackets are gone, and variables have their numbers in the order of first occurrence.
-use Rattle.std.specs.Prelude.{ℕ, pos, ◌-ℤ◌, ◌+◌, ◌^◌, cond, List, [], ◌∷◌, ◌++◌}
+use Rattle.std.specs.Prelude.{ℕ, pos, ◌-ℤ◌, ◌+◌, cond, List, [], ◌∷◌, ◌++◌}
 use Rattle.std.specs.Str.{bytes_eq}
 use Rattle.ev_term.specs.declared.terms.Pat.{Pat}
 use Rattle.ev_term.specs.declared.terms.Pat.TheVariants as pat
@@ -15,6 +15,7 @@ use Rattle.rule_grammar.specs.Trees.{Adding, Adding.Added, Adding.Taken, Scaling
 use Rattle.rule_grammar.specs.Trees.{Condition, Condition.OneAll, Condition.MoreAll, All, All.OneNegation, All.MoreNegation, Negation, Negation.Negated, Negation.Compared, Comparison, Comparison.OneSum, Comparison.TwoSums, Sum, Sum.OneProduct, Sum.MoreProduct, Product, Product.OneUnit, Product.MoreUnit, Unit', Unit'.Value, Unit'.Grouped}
 use Rattle.rule_grammar.specs.Trees.{Tree, Tree.Plain, Tree.Filtered, Chain, Chain.One, Chain.More, Part, Part.Bare, Part.Atom, Part.Without, Part.Rounded, Round, Round.Bracketed, Round.Exactly, Round.AtMost}
 use Rattle.rule_grammar.specs.Trees.{Items, Items.OneItem, Items.MoreItem, Statement, Statement.Clause, Statement.Shown, Statements, Statements.Empty, Statements.Then}
+use Rattle.rule_lexer.specs.declared.tokens.TheConstants.{NUMBER_LIMIT}
 use Rattle.rule_grammar.specs.Marks.{nothing_counted, count_all}
 use Rattle.rule_grammar.specs.Tokens.{statement}
 
@@ -36,7 +37,7 @@ never_value h = absurd h
 abbrev pub literal_value : Literal → Pat
 literal_value (Digits n) = pat.Num (pos n)
 literal_value (Minus n) = pat.Num (pos 0 -ℤ pos n)
-literal_value Least = pat.Num (pos 0 -ℤ pos (2 ^ 63))
+literal_value Least = pat.Num (pos 0 -ℤ pos NUMBER_LIMIT)
 literal_value (Symbol name) = pat.Sym name
 literal_value (Quoted text) = pat.Text text
 
@@ -135,7 +136,8 @@ names_of s = (count_all nothing_counted (statement 1 s [])).names
 
 abbrev pub statement_value : Statement → PlainStatement
 statement_value (Clause h p) =
-    plain.Clause (record { head = heading_value (names_of (Clause h p)) h; body = tree_value (names_of (Clause h p)) p; vars = names_of (Clause h p) })
+    let names = names_of (Clause h p) in
+    plain.Clause (record { head = heading_value names h; body = tree_value names p; vars = names })
 statement_value (Shown is) = plain.Show (items_value is)
 
 abbrev pub text_value : Statements → List PlainStatement

@@ -3,19 +3,19 @@
 /// The limits of a rule file, in the order in which they are looked at.
 #[derive(Clone, Copy, PartialEq, Eq, Debug)]
 pub enum Which {
-    /// 1,024 statements of a file.
+    /// `MOST_STATEMENTS` of a file.
     Statements,
-    /// 256 parts of a rule: atoms, operators, lengths, and the operands of conditions.
+    /// `MOST_PARTS` of a rule.
     Parts,
-    /// 32 open brackets of patterns and conditions.
+    /// `MOST_BRACKETS` open ones.
     Depth,
-    /// 64 variables of a rule.
+    /// `MOST_SLOTS` of a rule.
     Variables,
-    /// Depth 16 of a term.
+    /// `MOST_DEPTH` of a term.
     TermDepth,
-    /// 16 arguments of an atom or compound.
+    /// `MOST_ARGUMENTS` of an atom or a compound.
     TermWidth,
-    /// 2^62 ticks.
+    /// `MOST_TICKS` of a length.
     Length,
 }
 

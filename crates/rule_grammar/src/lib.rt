@@ -3,6 +3,8 @@
 
 mod faults;
 mod laws;
+mod limits;
 
 pub use faults::{Fault, Which};
 pub use laws::texts_are_shaped;
+pub use limits::{MOST_BRACKETS, MOST_PARTS};

@@ -2,7 +2,7 @@
 use Rattle.std.proofs.Common.{◌≡◌, ℕ, true, false, cond, not, ◌==◌, ◌||◌, List, [], ◌∷◌, take, refl, sym, ap, ◌∙◌, subst, arith, zero, suc, ◌⊎◌, inl, inr}
 use Rattle.std.specs.Char.{is_ascii_digit, is_ascii_lowercase, is_ascii_uppercase, is_ascii_alphanumeric}
 use Rattle.std.specs.List.{list_all}
-use Rattle.std.proofs.lemmas.Bool.{cond-true, cond-false, false≢true, or_cases, or_parts, and_parts, not-true}
+use Rattle.std.proofs.lemmas.Bool.{cond-true, cond-false, false≢true, or_cases, or_parts, and_parts, not-true, eqb-true}
 use Rattle.std.proofs.lemmas.Bool.Decides.{nat_tests}
 use Rattle.rule_lexer.specs.declared.tokens.TokenKind.{TokenKind}
 use Rattle.rule_lexer.specs.declared.tokens.TokenKind.TheVariants.{Name, Var, Word as Reserved, Wild, Number, Text, Mark as Sign}
@@ -79,16 +79,13 @@ letter_class (b ∷ bs) e = at (or_cases (is_ascii_lowercase b) (is_ascii_upperc
     at (inl h) = rw (lower_class (b ∷ bs) h) tt
     at (inr h) = rw (upper_class (b ∷ bs) h) tt
 
-pub eqb_is : (b n : ℕ) → (b == n) ≡ true → b ≡ n
-eqb_is b n e = grind (arith, nat_tests)
-
 pub quote_class : (bs : List ℕ) → begins is_quote bs ≡ true → class_first bs ≡ Quote
 quote_class [] e = absurd (false≢true e)
-quote_class (b ∷ bs) e = ap class_of (eqb_is b 34 e)
+quote_class (b ∷ bs) e = ap class_of (eqb-true b 34 e)
 
 pub under_class : (bs : List ℕ) → begins is_underscore bs ≡ true → class_first bs ≡ Under
 under_class [] e = absurd (false≢true e)
-under_class (b ∷ bs) e = ap class_of (eqb_is b 95 e)
+under_class (b ∷ bs) e = ap class_of (eqb-true b 95 e)
 
 pub sign_class : (bs : List ℕ) → begins is_sign bs ≡ true → class_first bs ≡ Other
 sign_class [] e = absurd (false≢true e)

@@ -1,5 +1,6 @@
 -- A token begins and ends at characters' edges.
 use Rattle.std.proofs.Common.{◌≡◌, ℕ, ◌+◌, ◌-◌, ◌<◌, Bool, true, List, [], ◌∷◌, ◌++◌, length, take, drop, get_or, refl, ap, ◌∙◌, subst, arith, suc, zero, length-append, length-drop}
+use Rattle.std.proofs.Math.Seq.{get_or-append_seam}
 use Rattle.std.specs.Prelude.{IsUtf8, IsCharBoundary}
 use Rattle.std.specs.Char.{is_ascii_digit}
 use Rattle.std.specs.List.{list_all}
@@ -82,15 +83,11 @@ mark_edges Limits = record { some = omega arith; first = omega arith; last = ome
 mark_edges Length = record { some = omega arith; first = omega arith; last = omega arith }
 mark_edges End = record { some = omega arith; first = omega arith; last = omega arith }
 
-last_of : (xs : List ℕ) (b : ℕ) → get_or (xs ++ b ∷ []) (length xs) 0 ≡ b
-last_of [] b = refl
-last_of (x ∷ xs) b = last_of xs b
-
 text_edges : (inside : List ℕ) → Edges (34 ∷ inside ++ 34 ∷ [])
 text_edges inside = record {
   some = omega arith;
   first = omega arith;
-  last = (let n : length (34 ∷ inside ++ 34 ∷ []) - 1 ≡ suc (length inside) = omega (arith, length-append inside (34 ∷ [])) in let e = last_of inside 34 in rw (n, e) (omega arith));
+  last = (let n : length (34 ∷ inside ++ 34 ∷ []) - 1 ≡ suc (length inside) = omega (arith, length-append inside (34 ∷ [])) in let e = get_or-append_seam inside 34 [] 0 in rw (n, e) (omega arith));
 }
 
 pub edges : (k : TokenKind) (bs : List ℕ) → Spells k bs → Edges bs

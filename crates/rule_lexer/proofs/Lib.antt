@@ -7,3 +7,16 @@ pub mod SignLaws
 pub mod PlaceLaws
 pub mod KindLaws
 pub mod EdgeLaws
+pub mod Chains
+pub mod Escapes
+pub mod TextPlaces
+pub mod OneLexing
+pub mod Stands
+pub mod WrittenWords
+pub mod WrittenNumbers
+pub mod WrittenTexts
+pub mod WrittenSigns
+pub mod WrittenTokens
+pub mod RoundTrip
+pub mod ReadTerminals
+pub mod Utf8

@@ -55,8 +55,3 @@ number_over ds value i l e h =
     let f = at_drop_more (number_from value) ds i 0 l in
     let m : value * 10 + (get_or ds i 0 - 48) ≤ number_from (value * 10 + (get_or ds i 0 - 48)) (drop (i + 1) ds) = number_from_least (value * 10 + (get_or ds i 0 - 48)) (drop (i + 1) ds) in
     omega arith
-
--- and one that it doesn't
-pub number_more : (ds : List ℕ) (value i : ℕ) → i < length ds → number_of ds ≡ number_from value (drop i ds) → value ≤ (2 ^ 63 - (get_or ds i 0 - 48)) / 10 → get_or ds i 0 - 48 < 256
-    → (number_of ds ≡ number_from (value * 10 + (get_or ds i 0 - 48)) (drop (i + 1) ds)) × (value * 10 + (get_or ds i 0 - 48) ≤ 2 ^ 63)
-number_more ds value i l e h b = (e ∙ at_drop_more (number_from value) ds i 0 l, omega arith)

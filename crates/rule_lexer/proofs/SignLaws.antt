@@ -2,7 +2,7 @@
 use Rattle.std.proofs.Common.{◌≡◌, ℕ, ◌≤◌, Bool, true, false, cond, not, ◌==◌, ◌||◌, List, [], ◌∷◌, length, take, drop, refl, sym, ap, ◌∙◌, subst, arith, suc, zero, Option, Some, None, IfSome, get_or}
 use Rattle.std.specs.Char.{is_ascii_digit, is_ascii_lowercase, is_ascii_uppercase, is_ascii_alphanumeric}
 use Rattle.std.proofs.lemmas.List.{length-take-le}
-use Rattle.std.proofs.lemmas.Bool.{and_from, and_parts, or_parts, false≢true, not-true, not_from_false}
+use Rattle.std.proofs.lemmas.Bool.{and_from, and_parts, or_parts, false≢true, not-true, not_from_false, eqb-true}
 use Rattle.rule_lexer.specs.declared.tokens.TokenKind.{TokenKind}
 use Rattle.rule_lexer.specs.declared.tokens.TokenKind.TheVariants.{Wild, Mark as Sign}
 use Rattle.rule_lexer.specs.declared.tokens.Mark.{Mark}
@@ -10,7 +10,7 @@ use Rattle.rule_lexer.specs.declared.tokens.Mark.TheVariants.{OpenRound, CloseRo
 use Rattle.rule_lexer.specs.Sorts.{is_word, is_sign, is_quote, is_underscore, is_open_square, begins}
 use Rattle.rule_lexer.specs.Spelling.{mark_bytes, mark_allows}
 use Rattle.rule_lexer.specs.Reading.{pair_mark, single_mark, stop_mark, two_mark, lone_mark, TokenOf, LongestOf, NoneOf}
-use Rattle.rule_lexer.proofs.Classes.{IsOther, IsUnder, MarkToken, WildToken, class_stands, sign_class, under_class, as_mark, as_wild, eqb_is}
+use Rattle.rule_lexer.proofs.Classes.{IsOther, IsUnder, MarkToken, WildToken, class_stands, sign_class, under_class, as_mark, as_wild}
 
 -- a sign is found by its bytes and what follows
 
@@ -64,7 +64,7 @@ abbrev Pair : ℕ → ℕ → Option Mark → Type 0
 Pair a b o = IfSome o (λ m. mark_bytes m ≡ a ∷ b ∷ [])
 
 two_same : (a b x y : ℕ) → (a == x) ≡ true → (b == y) ≡ true → x ∷ y ∷ [] ≡ a ∷ b ∷ []
-two_same a b x y e f = let g : a ≡ x = eqb_is a x e in let h : b ≡ y = eqb_is b y f in cc
+two_same a b x y e f = let g : a ≡ x = eqb-true a x e in let h : b ≡ y = eqb-true b y f in cc
 
 pick : (P : Option Mark → Type 0) (t : Bool) (x y : Option Mark) → (t ≡ true → P x) → P y → P (cond t x y)
 pick P true x y h k = h refl
@@ -80,7 +80,7 @@ abbrev Lone : ℕ → List ℕ → Option Mark → Type 0
 Lone a rest o = IfSome o (λ m. (mark_bytes m ≡ a ∷ []) × (mark_allows m rest ≡ true))
 
 one_same : (a x : ℕ) → (a == x) ≡ true → x ∷ [] ≡ a ∷ []
-one_same a x e = let g : a ≡ x = eqb_is a x e in cc
+one_same a x e = let g : a ≡ x = eqb-true a x e in cc
 
 single_sound : (a : ℕ) (rest : List ℕ) → Lone a rest (single_mark a)
 single_sound a rest =
@@ -172,7 +172,7 @@ wild_short bs k n q t = let h = as_underscore bs k n q t in omega (arith, ap len
 pub wild_longest : (bs : List ℕ) → begins is_underscore bs ≡ true → begins is_word (drop 1 bs) ≡ false → LongestOf bs Wild 1
 wild_longest [] q e = absurd (false≢true q)
 wild_longest (b ∷ bs) q e = record {
-  stands = record { within = omega arith; token = record { spells = ap (λ x. x ∷ []) (eqb_is b 95 q); follows = not_from_false _ e } };
+  stands = record { within = omega arith; token = record { spells = ap (λ x. x ∷ []) (eqb-true b 95 q); follows = not_from_false _ e } };
   longest = λ j n more t. let s : n ≡ 1 = wild_short (b ∷ bs) j n q t in omega arith;
 }
 
@@ -187,4 +187,4 @@ wild_none bs q e = record {
 
 pub wild_other : (bs : List ℕ) → begins is_underscore bs ≡ true → (begins is_quote bs ≡ false) × (begins is_ascii_digit bs ≡ false)
 wild_other [] q = absurd (false≢true q)
-wild_other (b ∷ bs) q = rw (eqb_is b 95 q) (refl, refl)
+wild_other (b ∷ bs) q = rw (eqb-true b 95 q) (refl, refl)

@@ -1,6 +1,6 @@
 -- Texts between quotes.
 use Rattle.std.proofs.Common.{◌≡◌, ℕ, ◌+◌, ◌≤◌, Bool, true, false, cond, ◌==◌, List, [], ◌∷◌, ◌++◌, length, take, drop, refl, sym, ap, ◌∙◌, subst, arith, suc, ◌⊎◌, inl, inr, Result, Ok, Err, length-append, append_assoc}
-use Rattle.std.proofs.lemmas.Bool.{and_parts, and_from, false≢true}
+use Rattle.std.proofs.lemmas.Bool.{and_parts, and_from, false≢true, eqb-true}
 use Rattle.std.proofs.lemmas.List.{take-append-drop, take_at, length-take-le}
 use Rattle.rule_lexer.specs.declared.tokens.LexKind.{LexKind}
 use Rattle.rule_lexer.specs.declared.tokens.LexKind.TheVariants.{OpenText, BadEscape}
@@ -10,7 +10,7 @@ use Rattle.rule_lexer.specs.Sorts.{is_quote, begins}
 use Rattle.rule_lexer.specs.Spelling.{IsText, is_character, opens_escape, are_characters, is_escape}
 use Rattle.rule_lexer.specs.Places.{HasBadEscape, Faulty}
 use Rattle.rule_lexer.specs.Reading.{text_end, text_stop, TokenOf, LongestOf, NoneOf}
-use Rattle.rule_lexer.proofs.Classes.{IsQuote, class_stands, quote_class, as_text, eqb_is}
+use Rattle.rule_lexer.proofs.Classes.{IsQuote, class_stands, quote_class, as_text}
 
 -- characters and a quote are read up to the quote
 pub text_end-quote : (escaped : Bool) (n : ℕ) (inside rest : List ℕ) → are_characters escaped inside ≡ true → text_end escaped n (inside ++ 34 ∷ rest) ≡ Ok (n + length inside)
@@ -52,7 +52,7 @@ stops_at true n m b bs e = let z : ⊥ = cc in absurd z
 stops_at false n m b bs e = at (b == 34) refl e
   where
     at : (t : Bool) → (b == 34) ≡ t → cond {A = Result ℕ LexKind} t (Ok n) (Err OpenText) ≡ Ok m → EndsAt false n (b ∷ bs) m
-    at true q f = record { inside = []; rest = bs; whole = ap (λ x. x ∷ bs) (eqb_is b 34 q); characters = refl; place = (let g : n ≡ m = cc in omega arith) }
+    at true q f = record { inside = []; rest = bs; whole = ap (λ x. x ∷ bs) (eqb-true b 34 q); characters = refl; place = (let g : n ≡ m = cc in omega arith) }
     at false q f = let z : ⊥ = cc in absurd z
 
 more_inside : (escaped : Bool) (n m b : ℕ) (bs : List ℕ) → is_character escaped b ≡ true → EndsAt (opens_escape escaped b) (suc n) bs m → EndsAt escaped n (b ∷ bs) m
@@ -103,7 +103,7 @@ bad_stop false n b bs c e = at (b == 34) e
 
 bad_first : (escaped : Bool) (b : ℕ) (bs : List ℕ) → opens_escape escaped b ≡ true → begins is_escape bs ≡ false → BadIn escaped (b ∷ bs)
 bad_first true b bs o e = absurd (false≢true o)
-bad_first false b bs o e = record { inside = []; behind = bs; whole = ap (λ x. x ∷ bs) (eqb_is b 92 o); characters = refl; no_escape = e }
+bad_first false b bs o e = record { inside = []; behind = bs; whole = ap (λ x. x ∷ bs) (eqb-true b 92 o); characters = refl; no_escape = e }
 
 bad_more : (escaped : Bool) (b : ℕ) (bs : List ℕ) → is_character escaped b ≡ true → BadFrom (opens_escape escaped b) bs → BadFrom escaped (b ∷ bs)
 bad_more escaped b bs c (inl h) = inr (bad_first escaped b bs h.0 h.1)
@@ -151,7 +151,7 @@ text_longest (b ∷ bs) n q e = record {
     h = text_ends bs false 0 n e
 
     whole : b ∷ bs ≡ (34 ∷ h.inside ++ 34 ∷ []) ++ h.rest
-    whole = (let f : b ≡ 34 = eqb_is b 34 q in let g : (h.inside ++ 34 ∷ []) ++ h.rest ≡ h.inside ++ 34 ∷ h.rest = append_assoc h.inside (34 ∷ []) h.rest in let w = h.whole in cc)
+    whole = (let f : b ≡ 34 = eqb-true b 34 q in let g : (h.inside ++ 34 ∷ []) ++ h.rest ≡ h.inside ++ 34 ∷ h.rest = append_assoc h.inside (34 ∷ []) h.rest in let w = h.whole in cc)
 
     front : take (n + 2) (b ∷ bs) ≡ 34 ∷ h.inside ++ 34 ∷ []
     front = ap (take (n + 2)) whole ∙ take_at (34 ∷ h.inside ++ 34 ∷ []) h.rest (n + 2) (omega (arith, length-append h.inside (34 ∷ []), h.place))
@@ -173,7 +173,7 @@ has_bad b bs q (inl h) = absurd (false≢true h.0)
 has_bad b bs q (inr h) = record {
   inside = h.inside;
   behind = h.behind;
-  whole = (let f : b ≡ 34 = eqb_is b 34 q in let w = h.whole in cc);
+  whole = (let f : b ≡ 34 = eqb-true b 34 q in let w = h.whole in cc);
   characters = h.characters;
   no_escape = h.no_escape;
 }

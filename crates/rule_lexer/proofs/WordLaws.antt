@@ -58,11 +58,6 @@ var_token bs rest l a e = record { spells = record { first_byte = l; all_bytes =
 pub reserved_token : (bs rest : List ℕ) (w : Word) → word_of bs ≡ Some w → IsToken (Reserved w) bs rest
 reserved_token bs rest w e = record { spells = word_is bs w e; follows = refl }
 
--- the second case of a letter
-pub upper_begins : (bs : List ℕ) → begins is_letter bs ≡ true → begins is_ascii_lowercase bs ≡ false → begins is_ascii_uppercase bs ≡ true
-upper_begins [] e l = absurd (false≢true e)
-upper_begins (b ∷ bs) e l = rw l at e
-
 -- the whole word that bytes begin with is the longest token
 pub word_longest : (bs : List ℕ) (k : TokenKind) (n : ℕ) → begins is_letter bs ≡ true → n ≡ prefix_len is_word bs → ((rest : List ℕ) → IsToken k (take n bs) rest) → LongestOf bs k n
 word_longest bs k n l e t = record {

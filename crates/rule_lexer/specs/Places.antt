@@ -2,6 +2,8 @@
 use Rattle.std.specs.Prelude.{◌≡◌, ℕ, ◌+◌, ◌^◌, ◌<◌, ◌≤◌, Bool, true, false, cond, ◌==◌, ◌||◌, not, List, [], ◌∷◌, ◌++◌, length, drop, slice_range, Option, Some, None, Result, Ok, Err, suc}
 use Rattle.std.specs.Char.{is_ascii_digit}
 use Rattle.std.specs.List.{take_while}
+use Rattle.ev_term.specs.Bytes.{feed, quote, hash, backslash}
+use Rattle.rule_lexer.specs.declared.tokens.TheConstants.{NUMBER_LIMIT}
 use Rattle.rule_lexer.specs.declared.tokens.TokenKind.{TokenKind}
 use Rattle.rule_lexer.specs.declared.tokens.Token.{Token}
 use Rattle.rule_lexer.specs.declared.tokens.LexFault.{LexFault}
@@ -13,12 +15,12 @@ use Rattle.rule_lexer.specs.Spelling.{IsToken, number_of, is_escape, are_charact
 -- a byte of a comment, or a blank or the sign that begins a comment
 abbrev pub is_skipped : Bool → ℕ → Bool
 is_skipped true b = true
-is_skipped false b = is_blank b || b == 35
+is_skipped false b = is_blank b || b == hash
 
 -- whether a comment goes on behind the byte: its line feed ends it
 abbrev pub comments : Bool → ℕ → Bool
-comments true b = not (b == 10)
-comments false b = b == 35
+comments true b = not (b == feed)
+comments false b = b == hash
 
 -- how many bytes blanks and comments take, inside of a comment or not
 abbrev pub skipped : Bool → List ℕ → ℕ
@@ -47,7 +49,7 @@ NoneFrom text from = (k : TokenKind) (n : ℕ) → ¬ TokenAt text k from n
 pub record HasBadEscape (bytes : List ℕ) : Type 0 where
   pub inside : List ℕ
   pub behind : List ℕ
-  pub whole : bytes ≡ 34 ∷ inside ++ 92 ∷ behind
+  pub whole : bytes ≡ quote ∷ inside ++ backslash ∷ behind
   pub characters : are_characters false inside ≡ true
   pub no_escape : begins is_escape behind ≡ false
 
@@ -55,7 +57,7 @@ pub record HasBadEscape (bytes : List ℕ) : Type 0 where
 abbrev pub Faulty : LexKind → List ℕ → Type 0
 Faulty BadEscape bytes = HasBadEscape bytes
 Faulty OpenText bytes = (begins is_quote bytes ≡ true) × ¬ HasBadEscape bytes
-Faulty NumberRange bytes = (begins is_ascii_digit bytes ≡ true) × (2 ^ 63 < number_of (take_while is_ascii_digit bytes))
+Faulty NumberRange bytes = (begins is_ascii_digit bytes ≡ true) × (NUMBER_LIMIT < number_of (take_while is_ascii_digit bytes))
 Faulty Byte bytes = (begins is_quote bytes ≡ false) × (begins is_ascii_digit bytes ≡ false)
 
 abbrev pub IfToken : Result (Option Token) LexFault → (Token → Type 0) → Type 0

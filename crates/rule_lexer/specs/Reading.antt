@@ -1,6 +1,8 @@
 -- How tokens are read, from the bytes that begin at a token's place.
 use Rattle.std.specs.Prelude.{ℕ, Bool, true, false, cond, ◌==◌, ◌≤◌, ◌<◌, List, [], ◌∷◌, length, take, drop, codes, Option, Some, None, Result, Ok, Err, suc, bytes_eq}
 use Rattle.std.specs.Char.{is_ascii_digit}
+use Rattle.ev_term.specs.Bytes.{bang, quote, open_round, close_round, plus, comma, minus, stop}
+use Rattle.rule_lexer.specs.SignBytes.{percent, ampersand, star, slash, less, equal, greater, open_square, close_square, bar}
 use Rattle.rule_lexer.specs.declared.tokens.TokenKind.{TokenKind}
 use Rattle.rule_lexer.specs.declared.tokens.LexKind.{LexKind}
 use Rattle.rule_lexer.specs.declared.tokens.LexKind.TheVariants.{OpenText, BadEscape}
@@ -13,22 +15,29 @@ use Rattle.rule_lexer.specs.Spelling.{IsToken, is_character, opens_escape}
 use Rattle.rule_lexer.specs.Places.{Faulty}
 
 abbrev pub word_of : List ℕ → Option Word
-word_of bytes = cond (bytes_eq bytes (codes "SEQ")) (Some Seq) (cond (bytes_eq bytes (codes "AND")) (Some And) (cond (bytes_eq bytes (codes "PAR")) (Some Par) (cond (bytes_eq bytes (codes "OR")) (Some Or)
-    (cond (bytes_eq bytes (codes "EQUALS")) (Some Equals) (cond (bytes_eq bytes (codes "MEETS")) (Some Meets) (cond (bytes_eq bytes (codes "DURING")) (Some During) (cond (bytes_eq bytes (codes "STARTS")) (Some Starts)
-    (cond (bytes_eq bytes (codes "FINISHES")) (Some Finishes) (cond (bytes_eq bytes (codes "NOT")) (Some Not) (cond (bytes_eq bytes (codes "WHERE")) (Some Where) (cond (bytes_eq bytes (codes "WITHIN")) (Some Within)
+word_of bytes =
+    cond (bytes_eq bytes (codes "SEQ")) (Some Seq) (cond (bytes_eq bytes (codes "AND")) (Some And)
+    (cond (bytes_eq bytes (codes "PAR")) (Some Par) (cond (bytes_eq bytes (codes "OR")) (Some Or)
+    (cond (bytes_eq bytes (codes "EQUALS")) (Some Equals) (cond (bytes_eq bytes (codes "MEETS")) (Some Meets)
+    (cond (bytes_eq bytes (codes "DURING")) (Some During) (cond (bytes_eq bytes (codes "STARTS")) (Some Starts)
+    (cond (bytes_eq bytes (codes "FINISHES")) (Some Finishes) (cond (bytes_eq bytes (codes "NOT")) (Some Not)
+    (cond (bytes_eq bytes (codes "WHERE")) (Some Where) (cond (bytes_eq bytes (codes "WITHIN")) (Some Within)
     (cond (bytes_eq bytes (codes "show")) (Some Show) None))))))))))))
 
 -- a sign of two bytes
 abbrev pub pair_mark : ℕ → ℕ → Option Mark
-pair_mark a b = cond (b == 45) (cond (a == 60) (Some Arrow) None)
-    (cond (b == 61) (cond (a == 33) (Some NotEqual) (cond (a == 60) (Some LessEqual) (cond (a == 62) (Some GreaterEqual) None)))
-    (cond (b == 91) (cond (a == 46) (Some Limits) None) None))
+pair_mark a b = cond (b == minus) (cond (a == less) (Some Arrow) None)
+    (cond (b == equal) (cond (a == bang) (Some NotEqual) (cond (a == less) (Some LessEqual) (cond (a == greater) (Some GreaterEqual) None)))
+    (cond (b == open_square) (cond (a == stop) (Some Limits) None) None))
 
 -- a sign of one byte other than a stop
 abbrev pub single_mark : ℕ → Option Mark
-single_mark a = cond (a == 40) (Some OpenRound) (cond (a == 41) (Some CloseRound) (cond (a == 91) (Some OpenSquare) (cond (a == 93) (Some CloseSquare) (cond (a == 44) (Some Comma)
-    (cond (a == 43) (Some Plus) (cond (a == 45) (Some Minus) (cond (a == 42) (Some Star) (cond (a == 47) (Some Slash) (cond (a == 37) (Some Percent) (cond (a == 61) (Some Equal)
-    (cond (a == 60) (Some Less) (cond (a == 62) (Some Greater) (cond (a == 38) (Some Both) (cond (a == 124) (Some Either) (cond (a == 33) (Some Bang) None)))))))))))))))
+single_mark a =
+    cond (a == open_round) (Some OpenRound) (cond (a == close_round) (Some CloseRound)
+    (cond (a == open_square) (Some OpenSquare) (cond (a == close_square) (Some CloseSquare) (cond (a == comma) (Some Comma)
+    (cond (a == plus) (Some Plus) (cond (a == minus) (Some Minus) (cond (a == star) (Some Star) (cond (a == slash) (Some Slash)
+    (cond (a == percent) (Some Percent) (cond (a == equal) (Some Equal) (cond (a == less) (Some Less) (cond (a == greater) (Some Greater)
+    (cond (a == ampersand) (Some Both) (cond (a == bar) (Some Either) (cond (a == bang) (Some Bang) None)))))))))))))))
 
 -- a stop by what stands behind it
 abbrev pub stop_mark : List ℕ → Option Mark
@@ -40,18 +49,19 @@ two_mark a [] = None
 two_mark a (b ∷ rest) = pair_mark a b
 
 abbrev pub lone_mark : ℕ → List ℕ → Option Mark
-lone_mark a rest = cond (a == 46) (stop_mark rest) (single_mark a)
+lone_mark a rest = cond (a == stop) (stop_mark rest) (single_mark a)
 
 -- what a byte that is no character of a text means, behind so many
 abbrev pub text_stop : Bool → ℕ → ℕ → Result ℕ LexKind
 text_stop true before b = Err BadEscape
-text_stop false before b = cond (b == 34) (Ok before) (Err OpenText)
+text_stop false before b = cond (b == quote) (Ok before) (Err OpenText)
 
 -- how many bytes a text has before its last quote, behind so many
 abbrev pub text_end : Bool → ℕ → List ℕ → Result ℕ LexKind
 text_end true before [] = Err BadEscape
 text_end false before [] = Err OpenText
-text_end escaped before (b ∷ bytes) = cond (is_character escaped b) (text_end (opens_escape escaped b) (suc before) bytes) (text_stop escaped before b)
+text_end escaped before (b ∷ bytes) =
+    cond (is_character escaped b) (text_end (opens_escape escaped b) (suc before) bytes) (text_stop escaped before b)
 
 -- the first n bytes are a token, and no more are
 pub record TokenOf (bytes : List ℕ) (kind : TokenKind) (n : ℕ) : Type 0 where

@@ -2,6 +2,9 @@
 use Rattle.std.specs.Prelude.{◌≡◌, ◌≢◌, ℕ, ◌+◌, ◌*◌, ◌-◌, ◌^◌, ◌≤◌, Bool, true, false, ◌==◌, ◌&&◌, ◌||◌, not, nat_le, List, [], ◌∷◌, ◌++◌, codes}
 use Rattle.std.specs.Char.{is_ascii_digit, is_ascii_lowercase, is_ascii_uppercase}
 use Rattle.std.specs.List.{list_all}
+use Rattle.ev_term.specs.Bytes.{space, quote, digit_0, backslash, underscore}
+use Rattle.rule_lexer.specs.SignBytes.{letter_n, letter_t}
+use Rattle.rule_lexer.specs.declared.tokens.TheConstants.{NUMBER_LIMIT}
 use Rattle.rule_lexer.specs.declared.tokens.TokenKind.{TokenKind}
 use Rattle.rule_lexer.specs.declared.tokens.TokenKind.TheVariants.{Name, Var, Word as Reserved, Wild, Number, Text, Mark as Sign}
 use Rattle.rule_lexer.specs.declared.tokens.Word.{Word}
@@ -59,31 +62,31 @@ pub record IsFreeWord (first : ℕ → Bool) (bytes : List ℕ) : Type 0 where
 -- the value of digits behind digits of some value
 abbrev pub number_from : ℕ → List ℕ → ℕ
 number_from value [] = value
-number_from value (b ∷ bytes) = number_from (value * 10 + (b - 48)) bytes
+number_from value (b ∷ bytes) = number_from (value * 10 + (b - digit_0)) bytes
 
 abbrev pub number_of : List ℕ → ℕ
 number_of bytes = number_from 0 bytes
 
--- one or more digits, of a value up to 2^63
+-- one or more digits, of a value up to the limit
 pub record IsNumber (value : ℕ) (bytes : List ℕ) : Type 0 where
   pub first_byte : begins is_ascii_digit bytes ≡ true
   pub all_bytes : list_all is_ascii_digit bytes ≡ true
   pub says : number_of bytes ≡ value
-  pub in_range : value ≤ 2 ^ 63
+  pub in_range : value ≤ NUMBER_LIMIT
 
 -- what stands behind a backslash
 abbrev pub is_escape : ℕ → Bool
-is_escape b = b == 34 || b == 92 || b == 110 || b == 116
+is_escape b = b == quote || b == backslash || b == letter_n || b == letter_t
 
 -- a byte of a text; `escaped` says that it stands behind the backslash of an escape
 abbrev pub is_character : Bool → ℕ → Bool
 is_character true b = is_escape b
-is_character false b = nat_le 32 b && not (b == 34)
+is_character false b = nat_le space b && not (b == quote)
 
 -- the backslash of an escape
 abbrev pub opens_escape : Bool → ℕ → Bool
 opens_escape true b = false
-opens_escape false b = b == 92
+opens_escape false b = b == backslash
 
 -- bytes between the quotes of a text, of which no escape lacks its end
 abbrev pub are_characters : Bool → List ℕ → Bool
@@ -93,14 +96,14 @@ are_characters escaped (b ∷ bytes) = is_character escaped b && are_characters 
 -- a quote, characters and a quote
 pub record IsText (bytes : List ℕ) : Type 0 where
   pub inside : List ℕ
-  pub whole : bytes ≡ 34 ∷ inside ++ 34 ∷ []
+  pub whole : bytes ≡ quote ∷ inside ++ quote ∷ []
   pub characters : are_characters false inside ≡ true
 
 abbrev pub Spells : TokenKind → List ℕ → Type 0
 Spells Name bytes = IsFreeWord is_ascii_lowercase bytes
 Spells Var bytes = IsFreeWord is_ascii_uppercase bytes
 Spells (Reserved w) bytes = bytes ≡ word_bytes w
-Spells Wild bytes = bytes ≡ 95 ∷ []
+Spells Wild bytes = bytes ≡ underscore ∷ []
 Spells (Number n) bytes = IsNumber n bytes
 Spells Text bytes = IsText bytes
 Spells (Sign m) bytes = bytes ≡ mark_bytes m

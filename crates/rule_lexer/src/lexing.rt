@@ -1,88 +1,108 @@
-//! The next token of a text.
+//! All tokens of a text.
 
-ghost use Rattle.std.specs.Prelude.{◌≡◌, ℕ, List, Ok, Err, Some, None, false, ◌+◌, ◌<◌, ◌≤◌, length, drop, IfErr, IsErr, ◌↔◌, IsCharBoundary};
-ghost use Rattle.rule_lexer.specs.Spelling.{IsToken};
-ghost use Rattle.rule_lexer.specs.Places.{IfToken, IsLongest, NoneFrom, Faulty, skipped, first_place};
-ghost use Rattle.rule_lexer.specs.Reading.{Scanned};
-ghost use Rattle.rule_lexer.specs.declared.tokens.TokenKind.{TokenKind};
+ghost use Rattle.std.specs.Prelude.{◌≡◌, ◌<◌, ◌≤◌, ◌-◌, ℕ, Bool, true, List, [], length, IfOk, IsCharBoundary, slice_range};
+ghost use Rattle.std.specs.List.{list_all};
+ghost use Rattle.rule_lexer.specs.Places.{TokenAt};
+ghost use Rattle.rule_lexer.specs.declared.terminals.Terminal.{Terminal};
+ghost use Rattle.rule_lexer.specs.Lexing.{terminal_of, Lexing};
+ghost use Rattle.rule_lexer.specs.Writing.{is_proper};
 
-use crate::numbers::number_at;
-use crate::signs::{mark_at, wild_at};
-use crate::sorts::is_blank;
-use crate::texts::text_at;
-use crate::tokens::{LexFault, LexKind, Token, TokenKind};
-use crate::words::word_at;
+use crate::scanning::next_token;
+use crate::tables::{mark_terminal, word_terminal};
+use crate::terminals::{Natural, Terminal};
+use crate::tokens::{NUMBER_LIMIT, Token, TokenKind};
+use crate::unescaping::unescaped;
+use ev_term::Name;
+use std::alloc::{AllocError, Global};
 
-// How many bytes the blanks and comments take that the bytes begin with.
-fn skipped(bytes: &[u8]) -> usize
-    ensures value { result ≡ skipped false bytes.now }
-    ensures within { result ≤ length bytes.now }
+/// The tokens of a text up to its end or to the first place where none begins.
+#[derive(Drop)]
+pub struct Lexed {
+    pub terminals: Vec<Terminal>,
+    /// The byte at which each of them begins.
+    pub places: Vec<usize>,
+    /// The length of the text, or the place where no token begins.
+    pub end: usize,
+    /// Whether the tokens go to the end of the text.
+    pub whole: bool,
+}
+
+fn number_terminal(value: u64) -> Terminal
+    requires { value ≤ NUMBER_LIMIT }
+    ensures { result ≡ terminal_of (TokenKind.Number value) [] }
 {
-    let mut in_comment = false;
-    for (index, byte) in bytes.iter().enumerate() {
-        if !in_comment && *byte != b'#' && !is_blank(*byte) {
-            return index;
+    if value == NUMBER_LIMIT {
+        Terminal::Huge
+    } else {
+        Terminal::Number(Natural::new(value))
+    }
+}
+
+// What a token of the text stands for.
+fn terminal_at(alloc: Global, text: &str, token: Token) -> Result<Terminal, AllocError>
+    requires stands { TokenAt text.now token.kind token.from token.to }
+    requires from { IsCharBoundary text.now token.from }
+    requires to { IsCharBoundary text.now token.to }
+    ensures { IfOk result (λ l. l ≡ terminal_of token.kind (slice_range text.now token.from token.to)) }
+{
+    match token.kind {
+        TokenKind::Name => Ok(Terminal::Name(Name::new(alloc, &text[token.from..token.to])?)),
+        TokenKind::Var => Ok(Terminal::Var(Name::new(alloc, &text[token.from..token.to])?)),
+        TokenKind::Word(word) => Ok(word_terminal(word)),
+        TokenKind::Wild => Ok(Terminal::Wild),
+        TokenKind::Number(value) => Ok(number_terminal(value)),
+        TokenKind::Text => Ok(Terminal::Text(unescaped(
+            alloc,
+            &text[token.from + 1..token.to - 1],
+        )?)),
+        TokenKind::Mark(mark) => Ok(mark_terminal(mark)),
+    }
+}
+
+/// The tokens of a text, and where each begins.
+pub fn lex(alloc: Global, text: &str) -> Result<Lexed, AllocError>
+    ensures { IfOk result (λ l. Lexing text.now 0 l.terminals.items l.places.items l.end l.whole) }
+{
+    let mut terminals = Vec::new(alloc);
+    let mut places = Vec::new(alloc);
+    let mut at = 0;
+    loop {
+        match next_token(text, at) {
+            Ok(Some(token)) => {
+                terminals.push(terminal_at(alloc, text, token)?)?;
+                places.push(token.from)?;
+                at = token.to;
+            }
+            Ok(None) => {
+                return Ok(Lexed {
+                    terminals,
+                    places,
+                    end: text.len(),
+                    whole: true,
+                });
+            }
+            Err(fault) => {
+                return Ok(Lexed {
+                    terminals,
+                    places,
+                    end: fault.at,
+                    whole: false,
+                });
+            }
         }
-        in_comment = if in_comment {
-            *byte != b'\n'
-        } else {
-            *byte == b'#'
-        };
-    }
-    bytes.len()
-}
-
-// The token that the bytes begin with, and how long it is.
-fn token_at(bytes: &[u8]) -> Result<(TokenKind, usize), LexKind>
-    requires { 0 < length bytes.now }
-    ensures { Scanned bytes.now result }
-{
-    match bytes[0] {
-        b'a'..=b'z' | b'A'..=b'Z' => Ok(word_at(bytes)),
-        b'0'..=b'9' => number_at(bytes),
-        b'"' => text_at(bytes),
-        b'_' => wild_at(bytes),
-        _ => mark_at(bytes),
     }
 }
 
-/// The token that stands next in a text, behind blanks and comments.
-pub fn next_token(text: &str, at: usize) -> Result<Option<Token>, LexFault>
-    requires { IsCharBoundary text.now at }
-    // None exactly where only blanks and comments follow.
-    ensures none { (result ≡ Ok None) ↔ (first_place text.now at ≡ length text.now) }
-
-    // A token is the longest at the first place that is neither blank nor comment.
-    ensures place { IfToken result (λ t. t.from ≡ first_place text.now at) }
-    ensures longest { IfToken result (λ t. IsLongest text.now t.kind t.from t.to) }
-    ensures some { IfToken result (λ t. t.from < t.to) }
-    ensures ends { IfToken result (λ t. IsCharBoundary text.now t.from × IsCharBoundary text.now t.to) }
-
-    // A fault comes exactly where no token begins at that place.
-    ensures exact { IsErr result ↔ ((first_place text.now at < length text.now) × NoneFrom text.now (first_place text.now at)) }
-    ensures fault { IfErr result (λ f. f.at ≡ first_place text.now at) }
-    ensures kind { IfErr result (λ f. Faulty f.kind (drop f.at text.now)) }
-{
-    let bytes = text.as_bytes();
-    let from = at + skipped(&bytes[at..]);
-    if from == bytes.len() {
-        return Ok(None);
-    }
-    match token_at(&bytes[from..]) {
-        Ok((kind, len)) => Ok(Some(Token {
-            kind,
-            from,
-            to: from + len,
-        })),
-        Err(kind) => Err(LexFault { at: from, kind }),
-    }
-}
-
-/// No bytes are tokens of two kinds before the same bytes, and no place has two longest tokens.
-pub fn one_kind()
-    ensures kind { (j k : TokenKind) (bytes rest : List ℕ) → IsToken j bytes rest → IsToken k bytes rest → j ≡ k }
-    ensures token { (j k : TokenKind) (text : List ℕ) (from m n : ℕ) → IsLongest text j from m → IsLongest text k from n → (j ≡ k) × (m ≡ n) }
+/// A text has its tokens in one way, and no more of them than bytes.
+pub fn one_lexing()
+    ensures same { (text : List ℕ) (at : ℕ) (ts us : List Terminal) (ps qs : List ℕ) (m n : ℕ) (v w : Bool)
+        → Lexing text at ts ps m v → Lexing text at us qs n w → (ts ≡ us) × (ps ≡ qs) × (m ≡ n) × (v ≡ w) }
+    ensures few { (text : List ℕ) (at : ℕ) (ts : List Terminal) (ps : List ℕ) (end : ℕ) (whole : Bool)
+        → Lexing text at ts ps end whole → length ts ≤ length text - at }
 {}
 
-#[cfg(test)]
-mod tests;
+/// Whatever is read can be written.
+pub fn terminals_are_proper()
+    ensures { (text : List ℕ) (at : ℕ) (ts : List Terminal) (places : List ℕ) (end : ℕ) (whole : Bool)
+        → Lexing text at ts places end whole → list_all is_proper ts ≡ true }
+{}

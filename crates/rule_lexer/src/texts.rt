@@ -13,7 +13,7 @@ fn is_character(escaped: bool, byte: u8) -> bool
     if escaped {
         byte == b'"' || byte == b'\\' || byte == b'n' || byte == b't'
     } else {
-        byte >= 32 && byte != b'"'
+        byte >= b' ' && byte != b'"'
     }
 }
 
@@ -52,8 +52,6 @@ pub fn text_at(bytes: &[u8]) -> Result<(TokenKind, usize), LexKind>
     requires { begins is_quote bytes.now ≡ true }
     ensures { Scanned bytes.now result }
 {
-    match text_end(&bytes[1..]) {
-        Ok(len) => Ok((TokenKind::Text, len + 2)),
-        Err(kind) => Err(kind),
-    }
+    let len = text_end(&bytes[1..])?;
+    Ok((TokenKind::Text, len + 2))
 }

@@ -1,5 +1,8 @@
 use thiserror::Error;
 
+/// The greatest value of a number, 2^63, which only a minus sign makes a term.
+pub const NUMBER_LIMIT: u64 = 1 << 63;
+
 /// A reserved word.
 #[derive(Clone, Copy, PartialEq, Eq, Debug)]
 pub enum Word {
@@ -57,7 +60,7 @@ pub enum TokenKind {
     Mark(Mark),
 }
 
-/// A token and its place: its text is the slice from `from` to `to`.
+/// A token at its place: its lexeme is the slice of the text from `from` to `to`.
 #[derive(Clone, Copy, PartialEq, Eq, Debug)]
 pub struct Token {
     pub kind: TokenKind,

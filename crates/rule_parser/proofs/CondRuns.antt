@@ -6,8 +6,8 @@ use Rattle.rule_ast.specs.Trees.{PlainCond}
 use Rattle.rule_grammar.specs.Trees.{Adding, Adding.Added, Adding.Taken, Scaling, Scaling.Times, Scaling.Over, Scaling.Modulo}
 use Rattle.ev_term.specs.declared.terms.Pat.{Pat}
 use Rattle.ev_term.specs.declared.terms.Pat.TheVariants as pat
-use Rattle.rule_tokens.specs.declared.lexemes.Lexeme.{Lexeme}
-use Rattle.rule_tokens.specs.declared.lexemes.Lexeme.TheVariants as t
+use Rattle.rule_lexer.specs.declared.terminals.Terminal.{Terminal}
+use Rattle.rule_lexer.specs.declared.terminals.Terminal.TheVariants as t
 use Rattle.rule_grammar.specs.declared.faults.Which.TheVariants as which
 use Rattle.rule_grammar.specs.Trees.{Literal, Literal.Digits, Literal.Minus, Literal.Least, Literal.Symbol, Literal.Quoted, Term.Leaf, Term.Lone, Term.Compound}
 use Rattle.rule_grammar.specs.Trees.{Condition.OneAll, Condition.MoreAll, All, All.OneNegation, All.MoreNegation, Negation.Negated, Negation.Compared, Comparison.OneSum, Comparison.TwoSums, Sum, Sum.OneProduct, Sum.MoreProduct, Product, Product.OneUnit, Product.MoreUnit, Unit', Unit'.Value, Unit'.Grouped}
@@ -26,11 +26,11 @@ use Rattle.rule_parser.specs.Steps.{Fine, with_variable, with_part, Extends, Fai
 use Rattle.rule_grammar.specs.Values.{slot_of, adding_value, scaling_value, condition_value, all_value, negation_value, comparison_value, sum_value, product_value, unit_value}
 use Rattle.rule_parser.proofs.Names.{extends_refl, extends_trans, extends_name}
 use Rattle.rule_parser.specs.Steps.{Link, begins_word, unit_level, product_level, sum_level, comparison_level, negation_level, all_level, condition_level}
-use Rattle.rule_parser.proofs.TermRuns.{run_on, resume_on, by_role_alone, quiet, fits, fails_along, word_shorter}
+use Rattle.rule_parser.proofs.TermRuns.{run_on, resume_on, by_role_alone, quiet, fits, fails_along, word_shorter, alone}
 
 -- Two trees with a token of one part between them.
 
-pub link_on : {C T C' T' V : Type 0} {L : Level C T} {E : Level C' T'} {x : Lexeme} (link : Link L E x) {value : List (List ℕ) → T → V} {ts r1 r2 : List Lexeme} {d : ℕ} {g g1 : Counted} {v : V}
+pub link_on : {C T C' T' V : Type 0} {L : Level C T} {E : Level C' T'} {x : Terminal} (link : Link L E x) {value : List (List ℕ) → T → V} {ts r1 r2 : List Terminal} {d : ℕ} {g g1 : Counted} {v : V}
     → (a : Read L value ts d g g1 v r1) → r1 ≡ x ∷ r2 → count g1 (Binary, x) ≡ with_part g1 → Fine (with_part g1)
     → (c : C) → L.depth c ≡ d → run ts g (L.state c) ≡ run r2 (with_part g1) (E.state (link.next c a.tree))
 link_on {L = L} {E = E} {x = x} link {r2 = r2} {g1 = g1} a e n f c q =
@@ -38,7 +38,7 @@ link_on {L = L} {E = E} {x = x} link {r2 = r2} {g1 = g1} a e n f c q =
     ∙ resume_on g1 (L.behind c a.tree) Binary (E.state (link.next c a.tree)) e (link.goes c a.tree) (ap (λ h. passed h Binary) n ∙ by_role_alone (with_part g1) Binary f)
     ∙ ap (λ h. run r2 h (E.state (link.next c a.tree))) n
 
-pub link_fails : {C T C' T' V : Type 0} {L : Level C T} {E : Level C' T'} {x : Lexeme} (link : Link L E x) {value : List (List ℕ) → T → V} {ts r1 r2 : List Lexeme} {d : ℕ} {g g1 g2 : Counted} {v : V} (err : Stop)
+pub link_fails : {C T C' T' V : Type 0} {L : Level C T} {E : Level C' T'} {x : Terminal} (link : Link L E x) {value : List (List ℕ) → T → V} {ts r1 r2 : List Terminal} {d : ℕ} {g g1 g2 : Counted} {v : V} (err : Stop)
     → (a : Read L value ts d g g1 v r1) → r1 ≡ x ∷ r2 → count g1 (Binary, x) ≡ with_part g1 → g2 ≡ with_part g1 → Fine (with_part g1)
     → ((c : C') → E.depth c ≡ d → Fails err (run r2 g2 (E.state c)))
     → (c : C) → L.depth c ≡ d → Fails err (run ts g (L.state c))
@@ -46,7 +46,7 @@ link_fails {L = L} {E = E} link {r2 = r2} err a e n p f fails c q =
     fails_along err (link_on link a e n f c q ∙ ap (λ y. run r2 y (E.state (link.next c a.tree))) (sym p)) (fails (link.next c a.tree) (link.deep c a.tree ∙ q))
 
 -- what was read of the first tree is what it is with the names that come later
-pub earlier : {C T C' T' V V' : Type 0} {L : Level C T} {E : Level C' T'} {value : List (List ℕ) → T → V} {value' : List (List ℕ) → T' → V'} {ts r1 r2 rest : List Lexeme} {d : ℕ} {g g1 g' : Counted} {v : V} {v' : V'}
+pub earlier : {C T C' T' V V' : Type 0} {L : Level C T} {E : Level C' T'} {value : List (List ℕ) → T → V} {value' : List (List ℕ) → T' → V'} {ts r1 r2 rest : List Terminal} {d : ℕ} {g g1 g' : Counted} {v : V} {v' : V'}
     → (a : Read L value ts d g g1 v r1) → Read E value' r2 d (with_part g1) g' v' rest → (names : List (List ℕ)) → Extends g'.names names → value names a.tree ≡ v
 earlier a b names q = a.says names (extends_trans b.grows q)
 
@@ -82,13 +82,13 @@ adding_counts g Taken = refl
 
 -- Operands.
 
-unit_resumes : (h : ProductHead) (u : Unit') (rest : List Lexeme) (g : Counted) → run rest g (have_unit h u) ≡ resume (λ x. behind_unit (have_unit h u) x) rest g
+unit_resumes : (h : ProductHead) (u : Unit') (rest : List Terminal) (g : Counted) → run rest g (have_unit h u) ≡ resume (λ x. behind_unit (have_unit h u) x) rest g
 unit_resumes (FirstUnit s) u [] g = refl
 unit_resumes (NextUnit s p op) u [] g = refl
 unit_resumes (FirstUnit s) u (x ∷ xs) g = refl
 unit_resumes (NextUnit s p op) u (x ∷ xs) g = refl
 
-name_unit_resumes : (h : ProductHead) (name : List ℕ) (rest : List Lexeme) (g : Counted) → Lacks sign.Open rest
+name_unit_resumes : (h : ProductHead) (name : List ℕ) (rest : List Terminal) (g : Counted) → Lacks sign.Open rest
     → run rest g (UnitName h name) ≡ resume (λ x. behind_unit (have_unit h (Value (Lone (Symbol name)))) x) rest g
 name_unit_resumes h name [] g l = refl
 name_unit_resumes h name (t.Open ∷ xs) g l = absurd (l refl)
@@ -97,7 +97,7 @@ name_unit_resumes h name (x ∷ xs) g l = refl
 single : (g : Counted) → Fine g → passed g Single ≡ None
 single g f = by_role_alone g Single f
 
-pub unit_variable : {ts rest : List Lexeme} {d : ℕ} {g g1 g' : Counted} {name : List ℕ} {slot : ℕ} → ts ≡ t.Var name ∷ rest → g1 ≡ with_part g → g' ≡ with_variable g1 name → Fine (with_variable g1 name)
+pub unit_variable : {ts rest : List Terminal} {d : ℕ} {g g1 g' : Counted} {name : List ℕ} {slot : ℕ} → ts ≡ t.Var name ∷ rest → g1 ≡ with_part g → g' ≡ with_variable g1 name → Fine (with_variable g1 name)
     → ((names : List (List ℕ)) → Extends g'.names names → slot_of names name ≡ slot) → Read unit_level unit_value ts d g g' (plain.Value (pat.Var slot)) rest
 unit_variable {ts} {rest} {d} {g} {g1} {g'} {name} {slot} e p q f s =
     let same : g' ≡ with_variable (with_part g) name = q ∙ ap (λ y. with_variable y name) p in
@@ -114,7 +114,7 @@ unit_variable {ts} {rest} {d} {g} {g1} {g'} {name} {slot} e p q f s =
           ∙ ap (λ y. run rest y (have_unit h (Value (Leaf name)))) (sym same) ∙ unit_resumes h (Value (Leaf name)) rest g';
     }
 
-word_unit_runs : (l : Literal) (ts rest : List Lexeme) (g : Counted) → Fine (with_part g) → IsNoSymbol l → ts ≡ word_tokens l rest → (h : ProductHead)
+word_unit_runs : (l : Literal) (ts rest : List Terminal) (g : Counted) → Fine (with_part g) → IsNoSymbol l → ts ≡ word_tokens l rest → (h : ProductHead)
     → run ts g (WantUnit h) ≡ resume (λ x. behind_unit (have_unit h (Value (Lone l))) x) rest (with_part g)
 word_unit_runs (Digits m) ts rest g f n e h = run_on g (WantUnit h) Single (have_unit h (Value (Lone (Digits m)))) e refl (single (with_part g) f) ∙ unit_resumes h (Value (Lone (Digits m))) rest (with_part g)
 word_unit_runs (Minus m) ts rest g f n e h =
@@ -133,7 +133,7 @@ word_unit_counts Least n g more = refl
 word_unit_counts (Symbol name) n g more = refl
 word_unit_counts (Quoted text) n g more = refl
 
-pub unit_word : {ts rest : List Lexeme} {d : ℕ} {g g' : Counted} {v : Pat} → g' ≡ with_part g → Fine (with_part g) → WordRead ts v rest → Read unit_level unit_value ts d g g' (plain.Value v) rest
+pub unit_word : {ts rest : List Terminal} {d : ℕ} {g g' : Counted} {v : Pat} → g' ≡ with_part g → Fine (with_part g) → WordRead ts v rest → Read unit_level unit_value ts d g g' (plain.Value v) rest
 unit_word {ts} {rest} {d} {g} {g'} {v} p f w = record {
   tree = Value (Lone w.literal);
   says = λ names q. ap plain.Value w.says;
@@ -144,16 +144,16 @@ unit_word {ts} {rest} {d} {g} {g'} {v} p f w = record {
   runs = λ h q. word_unit_runs w.literal ts rest g f w.no_symbol w.tokens h ∙ ap (λ y. resume (λ x. behind_unit (have_unit h (Value (Lone w.literal))) x) rest y) (sym p);
 }
 
-pub no_word : {A : Type 0} {ts rest : List Lexeme} {x : Lexeme} → ts ≡ x ∷ rest → begins_word x ≡ true → LacksWord ts → A
+pub no_word : {A : Type 0} {ts rest : List Terminal} {x : Terminal} → ts ≡ x ∷ rest → begins_word x ≡ true → LacksWord ts → A
 no_word {A} {ts} {rest} {x} e b l = at x b (subst LacksWord e l)
   where
-    at : (x : Lexeme) → begins_word x ≡ true → LacksWord (x ∷ rest) → A
+    at : (x : Terminal) → begins_word x ≡ true → LacksWord (x ∷ rest) → A
     at (t.Number n) b l = absurd l
     at (t.Text text) b l = absurd l
     at t.Minus b l = absurd l
     at x b l = cc
 
-pub unit_symbol : {ts rest : List Lexeme} {d : ℕ} {g g' : Counted} {name v : List ℕ} → g' ≡ with_part g → Fine (with_part g) → ts ≡ t.Name name ∷ rest → Lacks sign.Open rest → v ≡ name
+pub unit_symbol : {ts rest : List Terminal} {d : ℕ} {g g' : Counted} {name v : List ℕ} → g' ≡ with_part g → Fine (with_part g) → ts ≡ t.Name name ∷ rest → Lacks sign.Open rest → v ≡ name
     → Read unit_level unit_value ts d g g' (plain.Value (pat.Sym v)) rest
 unit_symbol {ts} {rest} {d} {g} {g'} {name} {v} p f e l s = record {
   tree = Value (Lone (Symbol name));
@@ -167,14 +167,14 @@ unit_symbol {ts} {rest} {d} {g} {g'} {name} {v} p f e l s = record {
       ∙ ap (λ y. run rest y (UnitName h name)) (sym p) ∙ name_unit_resumes h name rest g' l;
 }
 
-compound_begins : {ts r1 r2 : List Lexeme} (g : Counted) {g1 : Counted} {name : List ℕ} → g1 ≡ with_part g → Fine (with_part g) → ts ≡ t.Name name ∷ r1 → r1 ≡ t.Open ∷ r2 → (h : ProductHead)
+compound_begins : {ts r1 r2 : List Terminal} (g : Counted) {g1 : Counted} {name : List ℕ} → g1 ≡ with_part g → Fine (with_part g) → ts ≡ t.Name name ∷ r1 → r1 ≡ t.Open ∷ r2 → (h : ProductHead)
     → run ts g (WantUnit h) ≡ run r2 g1 (InOperand (WantTerm (Outside (h, name)) Start))
 compound_begins {ts} {r1} {r2} g {g1} {name} p f e1 e2 h =
     run_on g (WantUnit h) Single (UnitName h name) e1 refl (single (with_part g) f)
     ∙ run_on (with_part g) (UnitName h name) (Deepens 2) (InOperand (WantTerm (Outside (h, name)) Start)) e2 refl (by_role_alone (with_part g) (Deepens 2) f)
     ∙ ap (λ y. run r2 y (InOperand (WantTerm (Outside (h, name)) Start))) (sym p)
 
-pub unit_compound : {ts r1 r2 rest : List Lexeme} {d : ℕ} {g g1 g' : Counted} {name v : List ℕ} {vs : List Pat} → g1 ≡ with_part g → Fine (with_part g) → ts ≡ t.Name name ∷ r1 → r1 ≡ t.Open ∷ r2
+pub unit_compound : {ts r1 r2 rest : List Terminal} {d : ℕ} {g g1 g' : Counted} {name v : List ℕ} {vs : List Pat} → g1 ≡ with_part g → Fine (with_part g) → ts ≡ t.Name name ∷ r1 → r1 ≡ t.Open ∷ r2
     → ListRead Operand r2 2 g1 g' vs rest → v ≡ name → Read unit_level unit_value ts d g g' (plain.Value (pat.Comp v vs)) rest
 unit_compound {ts} {r1} {r2} {rest} {d} {g} {g1} {g'} {name} {v} {vs} p f e1 e2 l s = record {
   tree = Value (Compound name l.read.tree);
@@ -192,13 +192,13 @@ unit_compound {ts} {r1} {r2} {rest} {d} {g} {g1} {g'} {name} {v} {vs} p f e1 e2 
 
 -- Conditions in brackets.
 
-pub group_begins : {ts r1 : List Lexeme} {d : ℕ} {g : Counted} → Fine g → d + 1 ≤ 32 → ts ≡ t.Open ∷ r1 → (h : ProductHead) → product_depth h ≡ d
+pub group_begins : {ts r1 : List Terminal} {d : ℕ} {g : Counted} → Fine g → d + 1 ≤ 32 → ts ≡ t.Open ∷ r1 → (h : ProductHead) → product_depth h ≡ d
     → run ts g (WantUnit h) ≡ run r1 g (WantNegation (first_all (InGroup h)))
 group_begins {ts} {r1} {d} {g} f n e h q =
     run_on g (WantUnit h) (Nests (product_depth h + 1)) (WantNegation (first_all (InGroup h))) e refl
     (fits g (Nests (product_depth h + 1)) which.Depth 32 (product_depth h + 1) f refl (omega arith))
 
-pub unit_grouped : {ts r1 r2 rest : List Lexeme} {d : ℕ} {g g' : Counted} {v : PlainCond} → Fine g → d + 1 ≤ 32 → ts ≡ t.Open ∷ r1 → Read condition_level condition_value r1 (d + 1) g g' v r2 → r2 ≡ t.Close ∷ rest
+pub unit_grouped : {ts r1 r2 rest : List Terminal} {d : ℕ} {g g' : Counted} {v : PlainCond} → Fine g → d + 1 ≤ 32 → ts ≡ t.Open ∷ r1 → Read condition_level condition_value r1 (d + 1) g g' v r2 → r2 ≡ t.Close ∷ rest
     → Read unit_level unit_value ts d g g' v rest
 unit_grouped {ts} {r1} {r2} {rest} {d} {g} {g'} {v} f n e c l = record {
   tree = Grouped c.tree;
@@ -216,10 +216,10 @@ unit_grouped {ts} {r1} {r2} {rest} {d} {g} {g'} {v} f n e c l = record {
 
 -- Products.
 
-pub product_one : {ts rest : List Lexeme} {d : ℕ} {g g' : Counted} {v : PlainCond} → Read unit_level unit_value ts d g g' v rest → Read product_level product_value ts d g g' v rest
-product_one u = record { tree = OneUnit u.tree; says = u.says; grows = u.grows; fine = u.fine; shorter = u.shorter; counts = u.counts; runs = λ h q. u.runs (FirstUnit h) q }
+pub product_one : {ts rest : List Terminal} {d : ℕ} {g g' : Counted} {v : PlainCond} → Read unit_level unit_value ts d g g' v rest → Read product_level product_value ts d g g' v rest
+product_one u = alone OneUnit u (λ names. refl) (λ more. refl) (λ h q. u.runs (FirstUnit h) q)
 
-pub product_more : {ts r1 r2 rest : List Lexeme} {d : ℕ} {g g1 g2 g' : Counted} {u v w : PlainCond} (op : Scaling) → Read product_level product_value ts d g g1 u r1 → r1 ≡ scaling op ∷ r2 → g2 ≡ with_part g1 → Fine (with_part g1)
+pub product_more : {ts r1 r2 rest : List Terminal} {d : ℕ} {g g1 g2 g' : Counted} {u v w : PlainCond} (op : Scaling) → Read product_level product_value ts d g g1 u r1 → r1 ≡ scaling op ∷ r2 → g2 ≡ with_part g1 → Fine (with_part g1)
     → Read unit_level unit_value r2 d g2 g' v rest → w ≡ plain.Calculate (scaling_value op) u v → Read product_level product_value ts d g g' w rest
 product_more {ts} {r1} {r2} {rest} {d} {g} {g1} {g2} {g'} {u} {v} op a e p f b0 s =
     let b : Read unit_level unit_value r2 d (with_part g1) g' v rest = subst (λ y. Read unit_level unit_value r2 d y g' v rest) p b0 in
@@ -235,25 +235,18 @@ product_more {ts} {r1} {r2} {rest} {d} {g} {g1} {g2} {g'} {u} {v} op a e p f b0 
 
 -- Sums.
 
-product_over : (h : SumHead) (p : Product) (rest : List Lexeme) (g : Counted) → LacksScaling rest → resume (behind_product h p) rest g ≡ resume (behind_all_products (over_product h p)) rest g
+product_over : (h : SumHead) (p : Product) (rest : List Terminal) (g : Counted) → LacksScaling rest → resume (behind_product h p) rest g ≡ resume (behind_all_products (over_product h p)) rest g
 product_over h p [] g l = refl
 product_over h p (t.Star ∷ xs) g l = absurd l
 product_over h p (t.Slash ∷ xs) g l = absurd l
 product_over h p (t.Percent ∷ xs) g l = absurd l
 product_over h p (x ∷ xs) g l = refl
 
-pub sum_one : {ts rest : List Lexeme} {d : ℕ} {g g' : Counted} {v : PlainCond} → Read product_level product_value ts d g g' v rest → LacksScaling rest → Read sum_level sum_value ts d g g' v rest
-sum_one {rest = rest} {g' = g'} p l = record {
-  tree = OneProduct p.tree;
-  says = p.says;
-  grows = p.grows;
-  fine = p.fine;
-  shorter = p.shorter;
-  counts = p.counts;
-  runs = λ c q. p.runs (FirstProduct c) q ∙ product_over (FirstProduct c) p.tree rest g' l;
-}
+pub sum_one : {ts rest : List Terminal} {d : ℕ} {g g' : Counted} {v : PlainCond} → Read product_level product_value ts d g g' v rest → LacksScaling rest → Read sum_level sum_value ts d g g' v rest
+sum_one {rest = rest} {g' = g'} p l =
+    alone OneProduct p (λ names. refl) (λ more. refl) (λ c q. p.runs (FirstProduct c) q ∙ product_over (FirstProduct c) p.tree rest g' l)
 
-pub sum_more : {ts r1 r2 rest : List Lexeme} {d : ℕ} {g g1 g2 g' : Counted} {u v w : PlainCond} (op : Adding) → Read sum_level sum_value ts d g g1 u r1 → r1 ≡ adding op ∷ r2 → g2 ≡ with_part g1 → Fine (with_part g1)
+pub sum_more : {ts r1 r2 rest : List Terminal} {d : ℕ} {g g1 g2 g' : Counted} {u v w : PlainCond} (op : Adding) → Read sum_level sum_value ts d g g1 u r1 → r1 ≡ adding op ∷ r2 → g2 ≡ with_part g1 → Fine (with_part g1)
     → Read product_level product_value r2 d g2 g' v rest → LacksScaling rest → w ≡ plain.Calculate (adding_value op) u v → Read sum_level sum_value ts d g g' w rest
 sum_more {ts} {r1} {r2} {rest} {d} {g} {g1} {g2} {g'} {u} {v} op a e p f b0 l s =
     let b : Read product_level product_value r2 d (with_part g1) g' v rest = subst (λ y. Read product_level product_value r2 d y g' v rest) p b0 in
@@ -269,37 +262,30 @@ sum_more {ts} {r1} {r2} {rest} {d} {g} {g1} {g2} {g'} {u} {v} op a e p f b0 l s 
 
 -- Comparisons.
 
-sum_over : (n : NotHead) (s : Sum) (rest : List Lexeme) (g : Counted) → LacksAdding rest → LacksCompare rest → resume (behind_all_products (FirstSum n, s)) rest g ≡ resume (behind_comparison n (OneSum s)) rest g
+sum_over : (n : NotHead) (s : Sum) (rest : List Terminal) (g : Counted) → LacksAdding rest → LacksCompare rest → resume (behind_all_products (FirstSum n, s)) rest g ≡ resume (behind_comparison n (OneSum s)) rest g
 sum_over n s [] g a b = refl
 sum_over n s (t.Plus ∷ xs) g a b = absurd a
 sum_over n s (t.Minus ∷ xs) g a b = absurd a
 sum_over n s (t.Compare cmp ∷ xs) g a b = absurd b
 sum_over n s (x ∷ xs) g a b = refl
 
-second_over : (n : NotHead) (l : Sum) (cmp : Cmp) (s : Sum) (rest : List Lexeme) (g : Counted) → LacksAdding rest → resume (behind_all_products (SecondSum n l cmp, s)) rest g ≡ resume (behind_comparison n (TwoSums l cmp s)) rest g
+second_over : (n : NotHead) (l : Sum) (cmp : Cmp) (s : Sum) (rest : List Terminal) (g : Counted) → LacksAdding rest → resume (behind_all_products (SecondSum n l cmp, s)) rest g ≡ resume (behind_comparison n (TwoSums l cmp s)) rest g
 second_over n l cmp s [] g a = refl
 second_over n l cmp s (t.Plus ∷ xs) g a = absurd a
 second_over n l cmp s (t.Minus ∷ xs) g a = absurd a
 second_over n l cmp s (x ∷ xs) g a = refl
 
-pub comparison_one : {ts rest : List Lexeme} {d : ℕ} {g g' : Counted} {v : PlainCond} → Read sum_level sum_value ts d g g' v rest → LacksAdding rest → LacksCompare rest → Read comparison_level comparison_value ts d g g' v rest
-comparison_one {rest = rest} {g' = g'} s a b = record {
-  tree = OneSum s.tree;
-  says = s.says;
-  grows = s.grows;
-  fine = s.fine;
-  shorter = s.shorter;
-  counts = s.counts;
-  runs = λ n q. s.runs (FirstSum n) q ∙ sum_over n s.tree rest g' a b;
-}
+pub comparison_one : {ts rest : List Terminal} {d : ℕ} {g g' : Counted} {v : PlainCond} → Read sum_level sum_value ts d g g' v rest → LacksAdding rest → LacksCompare rest → Read comparison_level comparison_value ts d g g' v rest
+comparison_one {rest = rest} {g' = g'} s a b =
+    alone OneSum s (λ names. refl) (λ more. refl) (λ n q. s.runs (FirstSum n) q ∙ sum_over n s.tree rest g' a b)
 
-compare_begins : {ts r1 r2 : List Lexeme} {d : ℕ} {g g1 : Counted} {u : PlainCond} (cmp : Cmp) → (a : Read sum_level sum_value ts d g g1 u r1) → r1 ≡ t.Compare cmp ∷ r2 → Fine (with_part g1)
+compare_begins : {ts r1 r2 : List Terminal} {d : ℕ} {g g1 : Counted} {u : PlainCond} (cmp : Cmp) → (a : Read sum_level sum_value ts d g g1 u r1) → r1 ≡ t.Compare cmp ∷ r2 → Fine (with_part g1)
     → (n : NotHead) → not_depth n ≡ d → run ts g (WantUnit (first_unit (FirstSum n))) ≡ run r2 (with_part g1) (WantUnit (first_unit (SecondSum n a.tree cmp)))
 compare_begins {g1 = g1} cmp a e f n q =
     a.runs (FirstSum n) q
     ∙ resume_on g1 (behind_all_products (FirstSum n, a.tree)) Binary (WantUnit (first_unit (SecondSum n a.tree cmp))) e refl (by_role_alone (with_part g1) Binary f)
 
-pub comparison_two : {ts r1 r2 rest : List Lexeme} {d : ℕ} {g g1 g2 g' : Counted} {u v w : PlainCond} {cmp : Cmp} → Read sum_level sum_value ts d g g1 u r1 → r1 ≡ t.Compare cmp ∷ r2 → g2 ≡ with_part g1 → Fine (with_part g1)
+pub comparison_two : {ts r1 r2 rest : List Terminal} {d : ℕ} {g g1 g2 g' : Counted} {u v w : PlainCond} {cmp : Cmp} → Read sum_level sum_value ts d g g1 u r1 → r1 ≡ t.Compare cmp ∷ r2 → g2 ≡ with_part g1 → Fine (with_part g1)
     → Read sum_level sum_value r2 d g2 g' v rest → LacksAdding rest → w ≡ plain.Compare cmp u v → Read comparison_level comparison_value ts d g g' w rest
 comparison_two {ts} {r1} {r2} {rest} {d} {g} {g1} {g2} {g'} {u} {v} {w} {cmp} a e p f b0 l s =
     let b : Read sum_level sum_value r2 d (with_part g1) g' v rest = subst (λ y. Read sum_level sum_value r2 d y g' v rest) p b0 in
@@ -315,30 +301,22 @@ comparison_two {ts} {r1} {r2} {rest} {d} {g} {g1} {g2} {g'} {u} {v} {w} {cmp} a 
 
 -- Negations.
 
-negation_enters : (n : NotHead) (ts : List Lexeme) (g : Counted) → Lacks sign.Bang ts → run ts g (WantNegation n) ≡ run ts g (WantUnit (first_unit (FirstSum n)))
+negation_enters : (n : NotHead) (ts : List Terminal) (g : Counted) → Lacks sign.Bang ts → run ts g (WantNegation n) ≡ run ts g (WantUnit (first_unit (FirstSum n)))
 negation_enters n [] g l = refl
 negation_enters n (t.Bang ∷ xs) g l = absurd (l refl)
 negation_enters n (x ∷ xs) g l = refl
 
-pub negation_compared : {ts rest : List Lexeme} {d : ℕ} {g g' : Counted} {v : PlainCond} → Lacks sign.Bang ts → Read comparison_level comparison_value ts d g g' v rest → Read negation_level negation_value ts d g g' v rest
-negation_compared {ts} {rest} {d} {g} l c = record {
-  tree = Compared c.tree;
-  says = c.says;
-  grows = c.grows;
-  fine = c.fine;
-  shorter = c.shorter;
-  counts = c.counts;
-  runs = λ n q. negation_enters n ts g l ∙ c.runs n q;
-}
+pub negation_compared : {ts rest : List Terminal} {d : ℕ} {g g' : Counted} {v : PlainCond} → Lacks sign.Bang ts → Read comparison_level comparison_value ts d g g' v rest → Read negation_level negation_value ts d g g' v rest
+negation_compared {ts} {rest} {d} {g} l c = alone Compared c (λ names. refl) (λ more. refl) (λ n q. negation_enters n ts g l ∙ c.runs n q)
 
-pub negation_compared_answer : {R : Type 0} (plain' : R → PlainCond) (ts : List Lexeme) (d : ℕ) (g g' : Counted) (r : Result (R × Bor (List Lexeme)) Stop) → Lacks sign.Bang ts → Answer comparison_level comparison_value plain' ts d g g' r → Answer negation_level negation_value plain' ts d g g' r
+pub negation_compared_answer : {R : Type 0} (plain' : R → PlainCond) (ts : List Terminal) (d : ℕ) (g g' : Counted) (r : Result (R × Bor (List Terminal)) Stop) → Lacks sign.Bang ts → Answer comparison_level comparison_value plain' ts d g g' r → Answer negation_level negation_value plain' ts d g g' r
 negation_compared_answer plain' ts d g g' (Ok x) l a = negation_compared l a
 negation_compared_answer plain' ts d g g' (Err e) l a = λ n q. fails_along e (negation_enters n ts g l) (a n q)
 
-bang_begins : {ts r1 : List Lexeme} (g : Counted) → ts ≡ t.Bang ∷ r1 → Fine (with_part g) → (n : NotHead) → run ts g (WantNegation n) ≡ run r1 (with_part g) (WantNegation (Bang n))
+bang_begins : {ts r1 : List Terminal} (g : Counted) → ts ≡ t.Bang ∷ r1 → Fine (with_part g) → (n : NotHead) → run ts g (WantNegation n) ≡ run r1 (with_part g) (WantNegation (Bang n))
 bang_begins g e f n = run_on g (WantNegation n) Single (WantNegation (Bang n)) e refl (single (with_part g) f)
 
-pub negation_more : {ts r1 rest : List Lexeme} {d : ℕ} {g g1 g' : Counted} {v w : PlainCond} → ts ≡ t.Bang ∷ r1 → g1 ≡ with_part g → Fine (with_part g) → Read negation_level negation_value r1 d g1 g' v rest → w ≡ plain.Negate v
+pub negation_more : {ts r1 rest : List Terminal} {d : ℕ} {g g1 g' : Counted} {v w : PlainCond} → ts ≡ t.Bang ∷ r1 → g1 ≡ with_part g → Fine (with_part g) → Read negation_level negation_value r1 d g1 g' v rest → w ≡ plain.Negate v
     → Read negation_level negation_value ts d g g' w rest
 negation_more {ts} {r1} {rest} {d} {g} {g1} {g'} e p f n s = record {
   tree = Negated n.tree;
@@ -352,10 +330,10 @@ negation_more {ts} {r1} {rest} {d} {g} {g1} {g'} e p f n s = record {
 
 -- Conjunctions and conditions.
 
-pub all_one : {ts rest : List Lexeme} {d : ℕ} {g g' : Counted} {v : PlainCond} → Read negation_level negation_value ts d g g' v rest → Read all_level all_value ts d g g' v rest
-all_one n = record { tree = OneNegation n.tree; says = n.says; grows = n.grows; fine = n.fine; shorter = n.shorter; counts = n.counts; runs = λ o q. n.runs (NoBang (FirstNegation o)) q }
+pub all_one : {ts rest : List Terminal} {d : ℕ} {g g' : Counted} {v : PlainCond} → Read negation_level negation_value ts d g g' v rest → Read all_level all_value ts d g g' v rest
+all_one n = alone OneNegation n (λ names. refl) (λ more. refl) (λ o q. n.runs (NoBang (FirstNegation o)) q)
 
-pub all_more : {ts r1 r2 rest : List Lexeme} {d : ℕ} {g g1 g2 g' : Counted} {u v w : PlainCond} → Read all_level all_value ts d g g1 u r1 → r1 ≡ t.Both ∷ r2 → g2 ≡ with_part g1 → Fine (with_part g1)
+pub all_more : {ts r1 r2 rest : List Terminal} {d : ℕ} {g g1 g2 g' : Counted} {u v w : PlainCond} → Read all_level all_value ts d g g1 u r1 → r1 ≡ t.Both ∷ r2 → g2 ≡ with_part g1 → Fine (with_part g1)
     → Read negation_level negation_value r2 d g2 g' v rest → w ≡ plain.AndAlso u v → Read all_level all_value ts d g g' w rest
 all_more {ts} {r1} {r2} {rest} {d} {g} {g1} {g2} {g'} {u} {v} a e p f b0 s =
     let b : Read negation_level negation_value r2 d (with_part g1) g' v rest = subst (λ y. Read negation_level negation_value r2 d y g' v rest) p b0 in
@@ -369,23 +347,16 @@ all_more {ts} {r1} {r2} {rest} {d} {g} {g1} {g2} {g'} {u} {v} a e p f b0 s =
       runs = λ o q. link_on both_link a e refl f o q ∙ b.runs (NoBang (NextNegation o a.tree)) q;
     }
 
-all_over : (o : OrHead) (a : All) (rest : List Lexeme) (g : Counted) → Lacks sign.Both rest → resume (behind_all o a) rest g ≡ resume (behind_condition (over_condition o a).0 (over_condition o a).1) rest g
+all_over : (o : OrHead) (a : All) (rest : List Terminal) (g : Counted) → Lacks sign.Both rest → resume (behind_all o a) rest g ≡ resume (behind_condition (over_condition o a).0 (over_condition o a).1) rest g
 all_over o a [] g l = refl
 all_over o a (t.Both ∷ xs) g l = absurd (l refl)
 all_over o a (x ∷ xs) g l = refl
 
-pub condition_one : {ts rest : List Lexeme} {d : ℕ} {g g' : Counted} {v : PlainCond} → Read all_level all_value ts d g g' v rest → Lacks sign.Both rest → Read condition_level condition_value ts d g g' v rest
-condition_one {rest = rest} {g' = g'} a l = record {
-  tree = OneAll a.tree;
-  says = a.says;
-  grows = a.grows;
-  fine = a.fine;
-  shorter = a.shorter;
-  counts = a.counts;
-  runs = λ w q. a.runs (FirstAll w) q ∙ all_over (FirstAll w) a.tree rest g' l;
-}
+pub condition_one : {ts rest : List Terminal} {d : ℕ} {g g' : Counted} {v : PlainCond} → Read all_level all_value ts d g g' v rest → Lacks sign.Both rest → Read condition_level condition_value ts d g g' v rest
+condition_one {rest = rest} {g' = g'} a l =
+    alone OneAll a (λ names. refl) (λ more. refl) (λ w q. a.runs (FirstAll w) q ∙ all_over (FirstAll w) a.tree rest g' l)
 
-pub condition_more : {ts r1 r2 rest : List Lexeme} {d : ℕ} {g g1 g2 g' : Counted} {u v w : PlainCond} → Read condition_level condition_value ts d g g1 u r1 → r1 ≡ t.Either ∷ r2 → g2 ≡ with_part g1 → Fine (with_part g1)
+pub condition_more : {ts r1 r2 rest : List Terminal} {d : ℕ} {g g1 g2 g' : Counted} {u v w : PlainCond} → Read condition_level condition_value ts d g g1 u r1 → r1 ≡ t.Either ∷ r2 → g2 ≡ with_part g1 → Fine (with_part g1)
     → Read all_level all_value r2 d g2 g' v rest → Lacks sign.Both rest → w ≡ plain.OrElse u v → Read condition_level condition_value ts d g g' w rest
 condition_more {ts} {r1} {r2} {rest} {d} {g} {g1} {g2} {g'} {u} {v} a e p f b0 l s =
     let b : Read all_level all_value r2 d (with_part g1) g' v rest = subst (λ y. Read all_level all_value r2 d y g' v rest) p b0 in

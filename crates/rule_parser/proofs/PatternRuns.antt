@@ -6,8 +6,8 @@ use Rattle.rule_grammar.specs.Trees.{Joint, Joint.Joined, Joint.Otherwise}
 use Rattle.rule_parser.specs.declared.signs.Bound.{Bound}
 use Rattle.rule_parser.specs.declared.signs.Bound.TheVariants as bounds
 use Rattle.ev_term.specs.declared.terms.Pat.{Pat}
-use Rattle.rule_tokens.specs.declared.lexemes.Lexeme.{Lexeme}
-use Rattle.rule_tokens.specs.declared.lexemes.Lexeme.TheVariants as t
+use Rattle.rule_lexer.specs.declared.terminals.Terminal.{Terminal}
+use Rattle.rule_lexer.specs.declared.terminals.Terminal.TheVariants as t
 use Rattle.rule_grammar.specs.declared.faults.Which.TheVariants as which
 use Rattle.rule_grammar.specs.declared.faults.Fault.TheVariants as fault
 use Rattle.rule_grammar.specs.Trees.{Condition}
@@ -25,25 +25,25 @@ use Rattle.rule_parser.specs.Signs.{Lacks, LacksJoint}
 use Rattle.rule_parser.specs.Steps.{Fine, with_part, Extends, resume, Read, ListRead}
 use Rattle.rule_grammar.specs.Values.{condition_value, joined_value, tree_value, chain_value, part_value, round_value}
 use Rattle.rule_parser.proofs.Names.{extends_refl, extends_trans}
-use Rattle.rule_parser.specs.Signs.{LacksBound, bound_lexeme, bounded_value}
+use Rattle.rule_parser.specs.Signs.{LacksBound, bound_terminal, bounded_value}
 use Rattle.rule_parser.specs.Steps.{Link, LengthRead, part_level, round_level, chain_level, tree_level, condition_level}
-use Rattle.rule_parser.proofs.TermRuns.{run_on, resume_on, by_role_alone, quiet, fits}
+use Rattle.rule_parser.proofs.TermRuns.{run_on, resume_on, by_role_alone, quiet, fits, alone}
 use Rattle.rule_parser.proofs.CondRuns.{link_on, earlier}
 
-part_resumes : (c : Chain) (k : Stack) (rest : List Lexeme) (g : Counted) → run rest g (HavePart c k) ≡ resume (behind_chain k c) rest g
+part_resumes : (c : Chain) (k : Stack) (rest : List Terminal) (g : Counted) → run rest g (HavePart c k) ≡ resume (behind_chain k c) rest g
 part_resumes c k [] g = refl
 part_resumes c k (x ∷ xs) g = refl
 
-bare_resumes : (h : ChainHead) (k : Stack) (name : List ℕ) (rest : List Lexeme) (g : Counted) → Lacks sign.Open rest → run rest g (AtomName h k name) ≡ resume (behind_chain k (put h (Bare name))) rest g
+bare_resumes : (h : ChainHead) (k : Stack) (name : List ℕ) (rest : List Terminal) (g : Counted) → Lacks sign.Open rest → run rest g (AtomName h k name) ≡ resume (behind_chain k (put h (Bare name))) rest g
 bare_resumes h k name [] g l = refl
 bare_resumes h k name (t.Open ∷ xs) g l = absurd (l refl)
 bare_resumes h k name (x ∷ xs) g l = refl
 
-round_resumes : (h : ChainHead) (r : Round) (k : Stack) (rest : List Lexeme) (g : Counted) → run rest g (HaveRound h r k) ≡ resume (step (HaveRound h r k)) rest g
+round_resumes : (h : ChainHead) (r : Round) (k : Stack) (rest : List Terminal) (g : Counted) → run rest g (HaveRound h r k) ≡ resume (step (HaveRound h r k)) rest g
 round_resumes h r k [] g = refl
 round_resumes h r k (x ∷ xs) g = refl
 
-round_over : (h : ChainHead) (r : Round) (k : Stack) (rest : List Lexeme) (g : Counted) → LacksBound rest → resume (step (HaveRound h r k)) rest g ≡ resume (behind_chain k (put h (Rounded r))) rest g
+round_over : (h : ChainHead) (r : Round) (k : Stack) (rest : List Terminal) (g : Counted) → LacksBound rest → resume (step (HaveRound h r k)) rest g ≡ resume (behind_chain k (put h (Rounded r))) rest g
 round_over h r k [] g l = refl
 round_over h r k (t.Length ∷ xs) g l = absurd l
 round_over h r k (t.Within ∷ xs) g l = absurd l
@@ -51,7 +51,7 @@ round_over h r k (x ∷ xs) g l = refl
 
 -- Atoms.
 
-pub part_bare : {ts rest : List Lexeme} {d : ℕ} {g g' : Counted} {name v : List ℕ} {vs : List Pat} → g' ≡ with_part g → Fine (with_part g) → ts ≡ t.Name name ∷ rest → Lacks sign.Open rest → v ≡ name → vs ≡ []
+pub part_bare : {ts rest : List Terminal} {d : ℕ} {g g' : Counted} {name v : List ℕ} {vs : List Pat} → g' ≡ with_part g → Fine (with_part g) → ts ≡ t.Name name ∷ rest → Lacks sign.Open rest → v ≡ name → vs ≡ []
     → Read part_level part_value ts d g g' (plain.Atom (record { name = v; args = vs })) rest
 part_bare {ts} {rest} {d} {g} {g'} {name} {v} {vs} p f e l s n = record {
   tree = Bare name;
@@ -65,7 +65,7 @@ part_bare {ts} {rest} {d} {g} {g'} {name} {v} {vs} p f e l s n = record {
       ∙ ap (λ y. run rest y (AtomName c.0 c.1 name)) (sym p) ∙ bare_resumes c.0 c.1 name rest g' l;
 }
 
-pub part_atom : {ts r1 r2 rest : List Lexeme} {d : ℕ} {g g1 g' : Counted} {name v : List ℕ} {vs ws : List Pat} → g1 ≡ with_part g → Fine (with_part g) → ts ≡ t.Name name ∷ r1 → r1 ≡ t.Open ∷ r2
+pub part_atom : {ts r1 r2 rest : List Terminal} {d : ℕ} {g g1 g' : Counted} {name v : List ℕ} {vs ws : List Pat} → g1 ≡ with_part g → Fine (with_part g) → ts ≡ t.Name name ∷ r1 → r1 ≡ t.Open ∷ r2
     → ListRead Argument r2 1 g1 g' vs rest → v ≡ name → ws ≡ vs → Read part_level part_value ts d g g' (plain.Atom (record { name = v; args = ws })) rest
 part_atom {ts} {r1} {r2} {rest} {d} {g} {g1} {g'} {name} {v} {vs} {ws} p f e1 e2 l s n = record {
   tree = Atom name l.read.tree;
@@ -85,7 +85,7 @@ part_atom {ts} {r1} {r2} {rest} {d} {g} {g1} {g'} {name} {v} {vs} {ws} p f e1 e2
 
 -- Brackets and bounds.
 
-pub round_bracketed : {ts r1 r2 rest : List Lexeme} {d : ℕ} {g g' : Counted} {v : PlainPattern} → Fine g → d + 1 ≤ 32 → ts ≡ t.Open ∷ r1 → Read tree_level tree_value r1 (d + 1) g g' v r2 → r2 ≡ t.Close ∷ rest
+pub round_bracketed : {ts r1 r2 rest : List Terminal} {d : ℕ} {g g' : Counted} {v : PlainPattern} → Fine g → d + 1 ≤ 32 → ts ≡ t.Open ∷ r1 → Read tree_level tree_value r1 (d + 1) g g' v r2 → r2 ≡ t.Close ∷ rest
     → Read round_level round_value ts d g g' v rest
 round_bracketed {ts} {r1} {r2} {rest} {d} {g} {g'} f n e p l = record {
   tree = Bracketed p.tree;
@@ -105,7 +105,7 @@ bounded : Bound → Round → ℕ → Round
 bounded bounds.Exact r q = Exactly r q
 bounded bounds.Most r q = AtMost r q
 
-pub round_more : (b : Bound) {ts r1 r2 rest : List Lexeme} {d q : ℕ} {g g1 g2 : Counted} {u w : PlainPattern} → Read round_level round_value ts d g g1 u r1 → r1 ≡ bound_lexeme b ∷ r2 → g2 ≡ with_part g1 → Fine (with_part g1)
+pub round_more : (b : Bound) {ts r1 r2 rest : List Terminal} {d q : ℕ} {g g1 g2 : Counted} {u w : PlainPattern} → Read round_level round_value ts d g g1 u r1 → r1 ≡ bound_terminal b ∷ r2 → g2 ≡ with_part g1 → Fine (with_part g1)
     → LengthRead r2 q rest → w ≡ bounded_value b u q → Read round_level round_value ts d g g2 w rest
 round_more bounds.Exact {ts} {r1} {r2} {rest} {d} {q} {g} {g1} {g2} a e p f l s = record {
   tree = Exactly a.tree q;
@@ -134,20 +134,13 @@ round_more bounds.Most {ts} {r1} {r2} {rest} {d} {q} {g} {g1} {g2} a e p f l s =
       ∙ ap (λ y. run rest y (HaveRound c.0 (AtMost a.tree q) c.1)) (sym p) ∙ round_resumes c.0 (AtMost a.tree q) c.1 rest g2;
 }
 
-pub part_round : {ts rest : List Lexeme} {d : ℕ} {g g' : Counted} {v : PlainPattern} → Read round_level round_value ts d g g' v rest → LacksBound rest → Read part_level part_value ts d g g' v rest
-part_round {rest = rest} {g' = g'} r l = record {
-  tree = Rounded r.tree;
-  says = r.says;
-  grows = r.grows;
-  fine = r.fine;
-  shorter = r.shorter;
-  counts = r.counts;
-  runs = λ c q. r.runs c q ∙ round_over c.0 r.tree c.1 rest g' l;
-}
+pub part_round : {ts rest : List Terminal} {d : ℕ} {g g' : Counted} {v : PlainPattern} → Read round_level round_value ts d g g' v rest → LacksBound rest → Read part_level part_value ts d g g' v rest
+part_round {rest = rest} {g' = g'} r l =
+    alone Rounded r (λ names. refl) (λ more. refl) (λ c q. r.runs c q ∙ round_over c.0 r.tree c.1 rest g' l)
 
 -- NOT: up to its first limit, up to its second, and whole.
 
-without_first : {ts r0 r1 r2 r3 r4 : List Lexeme} {d : ℕ} (g : Counted) {g1 g2 : Counted} {i : PlainPattern} → ts ≡ t.Not ∷ r0 → g1 ≡ with_part g → Fine (with_part g) → d + 1 ≤ 32 → r0 ≡ t.Open ∷ r1
+without_first : {ts r0 r1 r2 r3 r4 : List Terminal} {d : ℕ} (g : Counted) {g1 g2 : Counted} {i : PlainPattern} → ts ≡ t.Not ∷ r0 → g1 ≡ with_part g → Fine (with_part g) → d + 1 ≤ 32 → r0 ≡ t.Open ∷ r1
     → (p : Read tree_level tree_value r1 (d + 1) g1 g2 i r2) → r2 ≡ t.Close ∷ r3 → r3 ≡ t.Limits ∷ r4 → (h : ChainHead) (k : Stack) → depth k ≡ d
     → run ts g (WantPart h k) ≡ run r4 g2 (WantPart FirstPart (InBefore h p.tree k))
 without_first {ts} {r0} {r1} {r2} {r3} {r4} {d} g {g1} {g2} e0 w f n e1 p e2 e3 h k q =
@@ -158,7 +151,7 @@ without_first {ts} {r0} {r1} {r2} {r3} {r4} {d} g {g1} {g2} e0 w f n e1 p e2 e3 
     ∙ resume_on g2 (behind (InNot h k) p.tree) Quiet (WantLimits h p.tree k) e2 refl (quiet g2 p.fine)
     ∙ run_on g2 (WantLimits h p.tree k) (Nests (depth k + 1)) (WantPart FirstPart (InBefore h p.tree k)) e3 refl (fits g2 (Nests (depth k + 1)) which.Depth 32 (depth k + 1) p.fine refl (omega arith))
 
-pub part_without : {ts r0 r1 r2 r3 r4 r5 r6 r7 rest : List Lexeme} {d : ℕ} {g g1 g2 g3 g' : Counted} {i b a : PlainPattern} → ts ≡ t.Not ∷ r0 → g1 ≡ with_part g → Fine (with_part g) → d + 1 ≤ 32 → r0 ≡ t.Open ∷ r1
+pub part_without : {ts r0 r1 r2 r3 r4 r5 r6 r7 rest : List Terminal} {d : ℕ} {g g1 g2 g3 g' : Counted} {i b a : PlainPattern} → ts ≡ t.Not ∷ r0 → g1 ≡ with_part g → Fine (with_part g) → d + 1 ≤ 32 → r0 ≡ t.Open ∷ r1
     → Read tree_level tree_value r1 (d + 1) g1 g2 i r2 → r2 ≡ t.Close ∷ r3 → r3 ≡ t.Limits ∷ r4 → Read tree_level tree_value r4 (d + 1) g2 g3 b r5 → r5 ≡ t.Comma ∷ r6
     → Read tree_level tree_value r6 (d + 1) g3 g' a r7 → r7 ≡ t.Square ∷ rest → Read part_level part_value ts d g g' (plain.Not i b a) rest
 part_without {ts} {r0} {r1} {r2} {r3} {r4} {r5} {r6} {r7} {rest} {d} {g} {g1} {g2} {g3} {g'} e0 w f n e1 p e2 e3 q e4 r e5 = record {
@@ -197,10 +190,10 @@ joint_counts g Otherwise = refl
 abbrev pub where_link : Link tree_level condition_level t.Where
 where_link = record { next = λ k p. InWhere p k; goes = λ k p. refl; deep = λ k p. refl }
 
-pub chain_one : {ts rest : List Lexeme} {d : ℕ} {g g' : Counted} {v : PlainPattern} → Read part_level part_value ts d g g' v rest → Read chain_level chain_value ts d g g' v rest
-chain_one p = record { tree = One p.tree; says = p.says; grows = p.grows; fine = p.fine; shorter = p.shorter; counts = p.counts; runs = λ k q. p.runs (FirstPart, k) q }
+pub chain_one : {ts rest : List Terminal} {d : ℕ} {g g' : Counted} {v : PlainPattern} → Read part_level part_value ts d g g' v rest → Read chain_level chain_value ts d g g' v rest
+chain_one p = alone One p (λ names. refl) (λ more. refl) (λ k q. p.runs (FirstPart, k) q)
 
-pub chain_more : {ts r1 r2 rest : List Lexeme} {d : ℕ} {g g1 g2 g' : Counted} {u v w : PlainPattern} (j : Joint) → Read chain_level chain_value ts d g g1 u r1 → r1 ≡ joint j ∷ r2 → g2 ≡ with_part g1 → Fine (with_part g1)
+pub chain_more : {ts r1 r2 rest : List Terminal} {d : ℕ} {g g1 g2 g' : Counted} {u v w : PlainPattern} (j : Joint) → Read chain_level chain_value ts d g g1 u r1 → r1 ≡ joint j ∷ r2 → g2 ≡ with_part g1 → Fine (with_part g1)
     → Read part_level part_value r2 d g2 g' v rest → w ≡ joined_value j u v → Read chain_level chain_value ts d g g' w rest
 chain_more {ts} {r1} {r2} {rest} {d} {g} {g1} {g2} {g'} {u} {v} j a e p f b0 s =
     let b : Read part_level part_value r2 d (with_part g1) g' v rest = subst (λ y. Read part_level part_value r2 d y g' v rest) p b0 in
@@ -214,29 +207,22 @@ chain_more {ts} {r1} {r2} {rest} {d} {g} {g1} {g2} {g'} {u} {v} j a e p f b0 s =
       runs = λ k q. link_on (joint_link j) a e (joint_counts g1 j) f k q ∙ b.runs (NextPart a.tree j, k) q;
     }
 
-chain_over : (k : Stack) (c : Chain) (rest : List Lexeme) (g : Counted) → LacksJoint rest → resume (behind_chain k c) rest g ≡ resume (behind k (Plain c)) rest g
+chain_over : (k : Stack) (c : Chain) (rest : List Terminal) (g : Counted) → LacksJoint rest → resume (behind_chain k c) rest g ≡ resume (behind k (Plain c)) rest g
 chain_over k c [] g l = refl
 chain_over k c (t.Op op ∷ xs) g l = absurd l
 chain_over k c (t.Or ∷ xs) g l = absurd l
 chain_over k c (x ∷ xs) g l = refl
 
-pub tree_plain : {ts rest : List Lexeme} {d : ℕ} {g g' : Counted} {v : PlainPattern} → Read chain_level chain_value ts d g g' v rest → LacksJoint rest → Read tree_level tree_value ts d g g' v rest
-tree_plain {rest = rest} {g' = g'} c l = record {
-  tree = Plain c.tree;
-  says = c.says;
-  grows = c.grows;
-  fine = c.fine;
-  shorter = c.shorter;
-  counts = c.counts;
-  runs = λ k q. c.runs k q ∙ chain_over k c.tree rest g' l;
-}
+pub tree_plain : {ts rest : List Terminal} {d : ℕ} {g g' : Counted} {v : PlainPattern} → Read chain_level chain_value ts d g g' v rest → LacksJoint rest → Read tree_level tree_value ts d g g' v rest
+tree_plain {rest = rest} {g' = g'} c l =
+    alone Plain c (λ names. refl) (λ more. refl) (λ k q. c.runs k q ∙ chain_over k c.tree rest g' l)
 
-where_over : (p : Tree) (k : Stack) (c : Condition) (rest : List Lexeme) (g : Counted) → Lacks sign.Either rest → resume (behind_condition (InWhere p k) c) rest g ≡ resume (behind k (Filtered p c)) rest g
+where_over : (p : Tree) (k : Stack) (c : Condition) (rest : List Terminal) (g : Counted) → Lacks sign.Either rest → resume (behind_condition (InWhere p k) c) rest g ≡ resume (behind k (Filtered p c)) rest g
 where_over p k c [] g l = refl
 where_over p k c (t.Either ∷ xs) g l = absurd (l refl)
 where_over p k c (x ∷ xs) g l = refl
 
-pub tree_where : {ts r1 r2 rest : List Lexeme} {d : ℕ} {g g1 g2 g' : Counted} {u w : PlainPattern} {v : PlainCond} → Read tree_level tree_value ts d g g1 u r1 → r1 ≡ t.Where ∷ r2 → g2 ≡ with_part g1 → Fine (with_part g1)
+pub tree_where : {ts r1 r2 rest : List Terminal} {d : ℕ} {g g1 g2 g' : Counted} {u w : PlainPattern} {v : PlainCond} → Read tree_level tree_value ts d g g1 u r1 → r1 ≡ t.Where ∷ r2 → g2 ≡ with_part g1 → Fine (with_part g1)
     → Read condition_level condition_value r2 d g2 g' v rest → Lacks sign.Either rest → w ≡ plain.Where u v → Read tree_level tree_value ts d g g' w rest
 tree_where {ts} {r1} {r2} {rest} {d} {g} {g1} {g2} {g'} {u} {w} {v} a e p f b0 l s =
     let b : Read condition_level condition_value r2 d (with_part g1) g' v rest = subst (λ y. Read condition_level condition_value r2 d y g' v rest) p b0 in
@@ -250,13 +236,13 @@ tree_where {ts} {r1} {r2} {rest} {d} {g} {g1} {g2} {g'} {u} {w} {v} a e p f b0 l
       runs = λ k q. link_on where_link a e refl f k q ∙ b.runs (InWhere a.tree k) q ∙ where_over a.tree k b.tree rest g' l;
     }
 
-after_stuck : (h : ChainHead) (i b : Tree) (k : Stack) (p : Tree) (rest : List Lexeme) (g : Counted) → Lacks sign.Where rest → Lacks sign.Square rest → resume (behind (InAfter h i b k) p) rest g ≡ Err (fault.Syntax (length rest))
+after_stuck : (h : ChainHead) (i b : Tree) (k : Stack) (p : Tree) (rest : List Terminal) (g : Counted) → Lacks sign.Where rest → Lacks sign.Square rest → resume (behind (InAfter h i b k) p) rest g ≡ Err (fault.Syntax (length rest))
 after_stuck h i b k p [] g w l = refl
 after_stuck h i b k p (t.Where ∷ xs) g w l = absurd (w refl)
 after_stuck h i b k p (t.Square ∷ xs) g w l = absurd (l refl)
 after_stuck h i b k p (x ∷ xs) g w l = refl
 
-pub without_square : {ts r0 r1 r2 r3 r4 r5 r6 r7 : List Lexeme} {d : ℕ} (g : Counted) {g1 g2 g3 g4 : Counted} {i b a : PlainPattern} → ts ≡ t.Not ∷ r0 → g1 ≡ with_part g → Fine (with_part g) → d + 1 ≤ 32 → r0 ≡ t.Open ∷ r1
+pub without_square : {ts r0 r1 r2 r3 r4 r5 r6 r7 : List Terminal} {d : ℕ} (g : Counted) {g1 g2 g3 g4 : Counted} {i b a : PlainPattern} → ts ≡ t.Not ∷ r0 → g1 ≡ with_part g → Fine (with_part g) → d + 1 ≤ 32 → r0 ≡ t.Open ∷ r1
     → Read tree_level tree_value r1 (d + 1) g1 g2 i r2 → r2 ≡ t.Close ∷ r3 → r3 ≡ t.Limits ∷ r4 → Read tree_level tree_value r4 (d + 1) g2 g3 b r5 → r5 ≡ t.Comma ∷ r6
     → Read tree_level tree_value r6 (d + 1) g3 g4 a r7 → Lacks sign.Where r7 → Lacks sign.Square r7
     → (c : ChainHead × Stack) → depth c.1 ≡ d → run ts g (WantPart c.0 c.1) ≡ Err (fault.Syntax (length r7))

@@ -1,7 +1,7 @@
 -- The tokens that are words or signs of their own.
 use Rattle.std.specs.Prelude.{◌≡◌, ℕ, List, [], ◌∷◌, Option, Some, None}
-use Rattle.rule_tokens.specs.declared.lexemes.Lexeme.{Lexeme}
-use Rattle.rule_tokens.specs.declared.lexemes.Lexeme.TheVariants as t
+use Rattle.rule_lexer.specs.declared.terminals.Terminal.{Terminal}
+use Rattle.rule_lexer.specs.declared.terminals.Terminal.TheVariants as t
 use Rattle.rule_grammar.specs.Trees.{Adding.Added, Adding.Taken, Scaling.Times, Scaling.Over, Scaling.Modulo, Joint.Joined, Joint.Otherwise}
 use Rattle.rule_grammar.specs.Trees as trees
 use Rattle.rule_grammar.specs.Tokens.{adding, scaling, joint}
@@ -18,26 +18,26 @@ use Rattle.rule_parser.specs.declared.signs.Adding.TheVariants as addings
 use Rattle.rule_parser.specs.declared.signs.Scaling.{Scaling}
 use Rattle.rule_parser.specs.declared.signs.Scaling.TheVariants as scalings
 
-abbrev pub lexeme_of : Sign → Lexeme
-lexeme_of sign.Arrow = t.Arrow
-lexeme_of sign.Bang = t.Bang
-lexeme_of sign.Both = t.Both
-lexeme_of sign.Close = t.Close
-lexeme_of sign.Comma = t.Comma
-lexeme_of sign.Either = t.Either
-lexeme_of sign.End = t.End
-lexeme_of sign.Length = t.Length
-lexeme_of sign.Limits = t.Limits
-lexeme_of sign.Minus = t.Minus
-lexeme_of sign.Not = t.Not
-lexeme_of sign.Open = t.Open
-lexeme_of sign.Show = t.Show
-lexeme_of sign.Slash = t.Slash
-lexeme_of sign.Square = t.Square
-lexeme_of sign.Where = t.Where
-lexeme_of sign.Within = t.Within
+abbrev pub terminal_of : Sign → Terminal
+terminal_of sign.Arrow = t.Arrow
+terminal_of sign.Bang = t.Bang
+terminal_of sign.Both = t.Both
+terminal_of sign.Close = t.Close
+terminal_of sign.Comma = t.Comma
+terminal_of sign.Either = t.Either
+terminal_of sign.End = t.End
+terminal_of sign.Length = t.Length
+terminal_of sign.Limits = t.Limits
+terminal_of sign.Minus = t.Minus
+terminal_of sign.Not = t.Not
+terminal_of sign.Open = t.Open
+terminal_of sign.Show = t.Show
+terminal_of sign.Slash = t.Slash
+terminal_of sign.Square = t.Square
+terminal_of sign.Where = t.Where
+terminal_of sign.Within = t.Within
 
-abbrev pub sign_of : Lexeme → Option Sign
+abbrev pub sign_of : Terminal → Option Sign
 sign_of t.Arrow = Some sign.Arrow
 sign_of t.Bang = Some sign.Bang
 sign_of t.Both = Some sign.Both
@@ -70,46 +70,46 @@ scaling_of scalings.Star = Times
 scaling_of scalings.Slash = Over
 scaling_of scalings.Percent = Modulo
 
-abbrev pub joint_lexeme : Joint → Lexeme
-joint_lexeme j = joint (joint_of j)
+abbrev pub joint_terminal : Joint → Terminal
+joint_terminal j = joint (joint_of j)
 
-abbrev pub bound_lexeme : Bound → Lexeme
-bound_lexeme bounds.Exact = t.Length
-bound_lexeme bounds.Most = t.Within
+abbrev pub bound_terminal : Bound → Terminal
+bound_terminal bounds.Exact = t.Length
+bound_terminal bounds.Most = t.Within
 
-abbrev pub adding_lexeme : Adding → Lexeme
-adding_lexeme a = adding (adding_of a)
+abbrev pub adding_terminal : Adding → Terminal
+adding_terminal a = adding (adding_of a)
 
-abbrev pub scaling_lexeme : Scaling → Lexeme
-scaling_lexeme s = scaling (scaling_of s)
+abbrev pub scaling_terminal : Scaling → Terminal
+scaling_terminal s = scaling (scaling_of s)
 
 -- no such token stands first
-abbrev pub Lacks : Sign → List Lexeme → Type 0
+abbrev pub Lacks : Sign → List Terminal → Type 0
 Lacks s [] = Unit {0}
 Lacks s (x ∷ xs) = ¬ (sign_of x ≡ Some s)
 
-abbrev pub LacksJoint : List Lexeme → Type 0
+abbrev pub LacksJoint : List Terminal → Type 0
 LacksJoint (t.Op op ∷ xs) = ⊥
 LacksJoint (t.Or ∷ xs) = ⊥
 LacksJoint xs = Unit {0}
 
-abbrev pub LacksBound : List Lexeme → Type 0
+abbrev pub LacksBound : List Terminal → Type 0
 LacksBound (t.Length ∷ xs) = ⊥
 LacksBound (t.Within ∷ xs) = ⊥
 LacksBound xs = Unit {0}
 
-abbrev pub LacksAdding : List Lexeme → Type 0
+abbrev pub LacksAdding : List Terminal → Type 0
 LacksAdding (t.Plus ∷ xs) = ⊥
 LacksAdding (t.Minus ∷ xs) = ⊥
 LacksAdding xs = Unit {0}
 
-abbrev pub LacksScaling : List Lexeme → Type 0
+abbrev pub LacksScaling : List Terminal → Type 0
 LacksScaling (t.Star ∷ xs) = ⊥
 LacksScaling (t.Slash ∷ xs) = ⊥
 LacksScaling (t.Percent ∷ xs) = ⊥
 LacksScaling xs = Unit {0}
 
-abbrev pub LacksCompare : List Lexeme → Type 0
+abbrev pub LacksCompare : List Terminal → Type 0
 LacksCompare (t.Compare cmp ∷ xs) = ⊥
 LacksCompare xs = Unit {0}
 

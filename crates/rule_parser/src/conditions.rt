@@ -1,7 +1,7 @@
 //! Conditions, by the levels at which their operators bind.
 
 ghost use Rattle.std.specs.Prelude.{◌≡◌, ◌∷◌, ◌≤◌, ℕ, true};
-ghost use Rattle.rule_tokens.specs.declared.lexemes.Lexeme.TheVariants as made;
+ghost use Rattle.rule_lexer.specs.declared.terminals.Terminal.TheVariants as made;
 ghost use Rattle.rule_ast.specs.Plain.{plain_cond};
 ghost use Rattle.rule_grammar.specs.Values.{unit_value, product_value, sum_value, comparison_value, negation_value, all_value, condition_value};
 ghost use Rattle.rule_parser.specs.declared.signs.Sign.TheVariants.{Both, Either};
@@ -17,30 +17,28 @@ use crate::signs::{
 use crate::terms::{Kind, arguments_at, word_at};
 use ev_term::{Name, Pat, Pats};
 use rule_ast::Cond;
-use rule_grammar::Which;
-use rule_tokens::Lexeme;
+use rule_grammar::{MOST_BRACKETS, Which};
+use rule_lexer::Terminal;
 use std::alloc::Global;
 
-const DEEPEST: u8 = 32;
-
-fn begins_word(first: &Lexeme) -> bool
+fn begins_word(first: &Terminal) -> bool
     ensures { result ≡ begins_word first.now }
 {
     match first {
-        Lexeme::Number(_) => true,
-        Lexeme::Text(_) => true,
-        Lexeme::Minus => true,
+        Terminal::Number(_) => true,
+        Terminal::Text(_) => true,
+        Terminal::Minus => true,
         _ => false,
     }
 }
 
 // The operand that is a number or a text.
 fn word_operand_at<'a>(
-    tokens: &'a [Lexeme],
-    first: &Lexeme,
-    rest: &[Lexeme],
+    tokens: &'a [Terminal],
+    first: &Terminal,
+    rest: &[Terminal],
     ledger: &mut Ledger,
-) -> Result<(Cond, &'a [Lexeme]), Stop>
+) -> Result<(Cond, &'a [Terminal]), Stop>
     requires first { tokens.now ≡ first.now ∷ rest.now }
     requires begins { begins_word first.now ≡ true }
     requires fine { Fine (counted ledger.old) }
@@ -55,11 +53,11 @@ fn word_operand_at<'a>(
 
 // The operand that is a variable.
 fn variable_operand_at<'a>(
-    tokens: &'a [Lexeme],
+    tokens: &'a [Terminal],
     name: &Name,
-    rest: &'a [Lexeme],
+    rest: &'a [Terminal],
     ledger: &mut Ledger,
-) -> Result<(Cond, &'a [Lexeme]), Stop>
+) -> Result<(Cond, &'a [Terminal]), Stop>
     requires named { tokens.now ≡ made.Var name.now ∷ rest.now }
     requires fine { Fine (counted ledger.old) }
     ensures { (d : ℕ) → Answer unit_level unit_value plain_cond tokens.now d (counted ledger.old) (counted ledger.new) result }
@@ -72,11 +70,11 @@ fn variable_operand_at<'a>(
 // The operand that begins with a name.
 fn named_operand_at<'a>(
     alloc: Global,
-    tokens: &'a [Lexeme],
+    tokens: &'a [Terminal],
     name: &Name,
-    rest: &'a [Lexeme],
+    rest: &'a [Terminal],
     ledger: &mut Ledger,
-) -> Result<(Cond, &'a [Lexeme]), Stop>
+) -> Result<(Cond, &'a [Terminal]), Stop>
     requires named { tokens.now ≡ made.Name name.now ∷ rest.now }
     requires fine { Fine (counted ledger.old) }
     ensures { (d : ℕ) → Answer unit_level unit_value plain_cond tokens.now d (counted ledger.old) (counted ledger.new) result }
@@ -92,9 +90,9 @@ fn named_operand_at<'a>(
 
 fn operand_at<'a>(
     alloc: Global,
-    tokens: &'a [Lexeme],
+    tokens: &'a [Terminal],
     ledger: &mut Ledger,
-) -> Result<(Cond, &'a [Lexeme]), Stop>
+) -> Result<(Cond, &'a [Terminal]), Stop>
     requires open { Lacks Sign.Open tokens.now }
     requires fine { Fine (counted ledger.old) }
     ensures { (d : ℕ) → Answer unit_level unit_value plain_cond tokens.now d (counted ledger.old) (counted ledger.new) result }
@@ -106,8 +104,8 @@ fn operand_at<'a>(
         return word_operand_at(tokens, first, rest, ledger);
     }
     match first {
-        Lexeme::Var(name) => variable_operand_at(tokens, name, rest, ledger),
-        Lexeme::Name(name) => named_operand_at(alloc, tokens, name, rest, ledger),
+        Terminal::Var(name) => variable_operand_at(tokens, name, rest, ledger),
+        Terminal::Name(name) => named_operand_at(alloc, tokens, name, rest, ledger),
         _ => Err(syntax(tokens)),
     }
 }
@@ -115,18 +113,18 @@ fn operand_at<'a>(
 #[cycle(conditions)]
 fn unit_at<'a>(
     alloc: Global,
-    tokens: &'a [Lexeme],
-    depth: u8,
+    tokens: &'a [Terminal],
+    depth: usize,
     ledger: &mut Ledger,
-) -> Result<(Cond, &'a [Lexeme]), Stop>
-    requires deep { depth ≤ 32 }
+) -> Result<(Cond, &'a [Terminal]), Stop>
+    requires deep { depth ≤ MOST_BRACKETS }
     requires fine { Fine (counted ledger.old) }
     ensures { Answer unit_level unit_value plain_cond tokens.now depth (counted ledger.old) (counted ledger.new) result }
 {
     let Some(inside) = skip(tokens, Sign::Open) else {
         return operand_at(alloc, tokens, ledger);
     };
-    if depth >= DEEPEST {
+    if depth >= MOST_BRACKETS {
         return Err(limit(Which::Depth, tokens));
     }
     let (inner, rest) = condition_at(alloc, inside, depth + 1, ledger)?;
@@ -137,13 +135,14 @@ fn unit_at<'a>(
 #[cycle(conditions)]
 fn product_at<'a>(
     alloc: Global,
-    tokens: &'a [Lexeme],
-    depth: u8,
+    tokens: &'a [Terminal],
+    depth: usize,
     ledger: &mut Ledger,
-) -> Result<(Cond, &'a [Lexeme]), Stop>
-    requires deep { depth ≤ 32 }
+) -> Result<(Cond, &'a [Terminal]), Stop>
+    requires deep { depth ≤ MOST_BRACKETS }
     requires fine { Fine (counted ledger.old) }
-    ensures { AnswerTo product_level product_value plain_cond LacksScaling tokens.now depth (counted ledger.old) (counted ledger.new) result }
+    ensures { AnswerTo product_level product_value plain_cond LacksScaling tokens.now depth
+        (counted ledger.old) (counted ledger.new) result }
 {
     let (mut left, mut rest) = unit_at(alloc, tokens, depth, ledger)?;
     while let Some((op, more)) = take_scaling(rest) {
@@ -158,11 +157,11 @@ fn product_at<'a>(
 #[cycle(conditions)]
 fn sum_at<'a>(
     alloc: Global,
-    tokens: &'a [Lexeme],
-    depth: u8,
+    tokens: &'a [Terminal],
+    depth: usize,
     ledger: &mut Ledger,
-) -> Result<(Cond, &'a [Lexeme]), Stop>
-    requires deep { depth ≤ 32 }
+) -> Result<(Cond, &'a [Terminal]), Stop>
+    requires deep { depth ≤ MOST_BRACKETS }
     requires fine { Fine (counted ledger.old) }
     ensures { AnswerTo sum_level sum_value plain_cond LacksAdding tokens.now depth (counted ledger.old) (counted ledger.new) result }
 {
@@ -179,11 +178,11 @@ fn sum_at<'a>(
 #[cycle(conditions)]
 fn comparison_at<'a>(
     alloc: Global,
-    tokens: &'a [Lexeme],
-    depth: u8,
+    tokens: &'a [Terminal],
+    depth: usize,
     ledger: &mut Ledger,
-) -> Result<(Cond, &'a [Lexeme]), Stop>
-    requires deep { depth ≤ 32 }
+) -> Result<(Cond, &'a [Terminal]), Stop>
+    requires deep { depth ≤ MOST_BRACKETS }
     requires fine { Fine (counted ledger.old) }
     ensures { Answer comparison_level comparison_value plain_cond tokens.now depth (counted ledger.old) (counted ledger.new) result }
 {
@@ -200,11 +199,11 @@ fn comparison_at<'a>(
 #[cycle(conditions)]
 fn negation_at<'a>(
     alloc: Global,
-    tokens: &'a [Lexeme],
-    depth: u8,
+    tokens: &'a [Terminal],
+    depth: usize,
     ledger: &mut Ledger,
-) -> Result<(Cond, &'a [Lexeme]), Stop>
-    requires deep { depth ≤ 32 }
+) -> Result<(Cond, &'a [Terminal]), Stop>
+    requires deep { depth ≤ MOST_BRACKETS }
     requires fine { Fine (counted ledger.old) }
     ensures { Answer negation_level negation_value plain_cond tokens.now depth (counted ledger.old) (counted ledger.new) result }
 {
@@ -219,11 +218,11 @@ fn negation_at<'a>(
 #[cycle(conditions)]
 fn all_at<'a>(
     alloc: Global,
-    tokens: &'a [Lexeme],
-    depth: u8,
+    tokens: &'a [Terminal],
+    depth: usize,
     ledger: &mut Ledger,
-) -> Result<(Cond, &'a [Lexeme]), Stop>
-    requires deep { depth ≤ 32 }
+) -> Result<(Cond, &'a [Terminal]), Stop>
+    requires deep { depth ≤ MOST_BRACKETS }
     requires fine { Fine (counted ledger.old) }
     ensures { AnswerTo all_level all_value plain_cond (Lacks Both) tokens.now depth (counted ledger.old) (counted ledger.new) result }
 {
@@ -241,13 +240,14 @@ fn all_at<'a>(
 #[cycle(conditions)]
 pub fn condition_at<'a>(
     alloc: Global,
-    tokens: &'a [Lexeme],
-    depth: u8,
+    tokens: &'a [Terminal],
+    depth: usize,
     ledger: &mut Ledger,
-) -> Result<(Cond, &'a [Lexeme]), Stop>
-    requires deep { depth ≤ 32 }
+) -> Result<(Cond, &'a [Terminal]), Stop>
+    requires deep { depth ≤ MOST_BRACKETS }
     requires fine { Fine (counted ledger.old) }
-    ensures { AnswerTo condition_level condition_value plain_cond (Lacks Either) tokens.now depth (counted ledger.old) (counted ledger.new) result }
+    ensures { AnswerTo condition_level condition_value plain_cond (Lacks Either) tokens.now depth
+        (counted ledger.old) (counted ledger.new) result }
 {
     let (mut left, mut rest) = all_at(alloc, tokens, depth, ledger)?;
     while let Some(more) = skip(rest, Sign::Either) {

@@ -1,7 +1,7 @@
 //! Heads of rules.
 
 ghost use Rattle.std.specs.Prelude.{◌≡◌, ◌∷◌, List};
-ghost use Rattle.rule_tokens.specs.declared.lexemes.Lexeme.TheVariants as made;
+ghost use Rattle.rule_lexer.specs.declared.terminals.Terminal.TheVariants as made;
 ghost use Rattle.rule_grammar.specs.Marks.{nothing_counted};
 ghost use Rattle.rule_grammar.specs.Values.{head_term_value};
 ghost use Rattle.rule_parser.specs.Steps.{counted, Fine, same, Answer, HeadListAnswer, HeadAnswer, head_term_level};
@@ -10,21 +10,19 @@ use crate::faults::Stop;
 use crate::ledger::{Ledger, slot_of};
 use crate::signs::{Sign, expect, limit, skip, syntax, take_first};
 use crate::terms::{Kind, arguments_at, word_at};
-use ev_term::{Name, Pat, PatAtom, Pats};
+use ev_term::{MOST_ARGUMENTS, Name, Pat, PatAtom, Pats};
 use rule_grammar::Which;
-use rule_tokens::Lexeme;
+use rule_lexer::Terminal;
 use std::alloc::Global;
-
-const WIDEST: usize = 16;
 
 // The term of a head that begins with a name.
 fn named_at<'a>(
     alloc: Global,
-    tokens: &'a [Lexeme],
+    tokens: &'a [Terminal],
     name: &Name,
-    rest: &'a [Lexeme],
+    rest: &'a [Terminal],
     ledger: &mut Ledger,
-) -> Result<(Pat, &'a [Lexeme]), Stop>
+) -> Result<(Pat, &'a [Terminal]), Stop>
     requires named { tokens.now ≡ made.Name name.now ∷ rest.now }
     requires fine { Fine (counted ledger.old) }
     ensures { Answer head_term_level head_term_value same tokens.now 0 (counted ledger.old) (counted ledger.new) result }
@@ -39,9 +37,9 @@ fn named_at<'a>(
 // The term of a head that stands first: a variable, or a term without variables.
 fn term_at<'a>(
     alloc: Global,
-    tokens: &'a [Lexeme],
+    tokens: &'a [Terminal],
     ledger: &mut Ledger,
-) -> Result<(Pat, &'a [Lexeme]), Stop>
+) -> Result<(Pat, &'a [Terminal]), Stop>
     requires { Fine (counted ledger.old) }
     ensures { Answer head_term_level head_term_value same tokens.now 0 (counted ledger.old) (counted ledger.new) result }
 {
@@ -52,8 +50,8 @@ fn term_at<'a>(
         return Err(syntax(tokens));
     };
     match first {
-        Lexeme::Var(name) => Ok((Pat::Var(slot_of(ledger, name, tokens)?), rest)),
-        Lexeme::Name(name) => named_at(alloc, tokens, name, rest, ledger),
+        Terminal::Var(name) => Ok((Pat::Var(slot_of(ledger, name, tokens)?), rest)),
+        Terminal::Name(name) => named_at(alloc, tokens, name, rest, ledger),
         _ => Err(syntax(tokens)),
     }
 }
@@ -61,9 +59,9 @@ fn term_at<'a>(
 // The terms of a head whose bracket is open, up to the bracket that closes it.
 fn terms_at<'a>(
     alloc: Global,
-    tokens: &'a [Lexeme],
+    tokens: &'a [Terminal],
     ledger: &mut Ledger,
-) -> Result<(Vec<Pat>, &'a [Lexeme]), Stop>
+) -> Result<(Vec<Pat>, &'a [Terminal]), Stop>
     requires { Fine (counted ledger.old) }
     ensures { HeadListAnswer tokens.now (counted ledger.old) (counted ledger.new) result }
 {
@@ -71,7 +69,7 @@ fn terms_at<'a>(
     let mut args = Vec::new(alloc);
     args.push(first)?;
     while let Some(more) = skip(rest, Sign::Comma) {
-        if args.len() >= WIDEST {
+        if args.len() >= MOST_ARGUMENTS {
             return Err(limit(Which::TermWidth, rest));
         }
         let (arg, after) = term_at(alloc, more, ledger)?;
@@ -86,9 +84,9 @@ fn terms_at<'a>(
 pub fn head_at<'a>(
     alloc: Global,
     name: &Name,
-    tokens: &'a [Lexeme],
+    tokens: &'a [Terminal],
     ledger: &mut Ledger,
-) -> Result<(PatAtom, &'a [Lexeme]), Stop>
+) -> Result<(PatAtom, &'a [Terminal]), Stop>
     requires { counted ledger.old ≡ nothing_counted }
     ensures { HeadAnswer name.now tokens.now (counted ledger.new) result }
 {

@@ -1,4 +1,4 @@
-//! Rules from the text of a rule file.
+//! Rules from the text of a rule file, and back.
 #![tactic(auto)]
 
 mod conditions;
@@ -13,3 +13,5 @@ mod terms;
 
 pub use faults::ParseFault;
 pub use parsing::{one_meaning, parse};
+pub use rule_grammar::Which;
+pub use rule_writer::rules_text;

@@ -1,17 +1,19 @@
 //! The rules of a text.
 
-ghost use Rattle.std.specs.Prelude.{◌≡◌, ℕ, List, IfOk};
+ghost use Rattle.std.specs.Prelude.{◌≡◌, ◌≤◌, ℕ, List, length, IfOk};
 ghost use Rattle.rule_ast.specs.Trees.{PlainStatement};
 ghost use Rattle.rule_ast.specs.Plain.{plain_rules};
 ghost use Rattle.rule_ast.specs.Shaped.{IsShaped};
-ghost use Rattle.rule_tokens.specs.Lexing.{Lexing};
-ghost use Rattle.rule_parser.specs.Answers.{Holds, Answers, Gives, Parsed, place_of};
+ghost use Rattle.rule_ast.specs.Shown.{shown_names};
+ghost use Rattle.rule_lexer.specs.Lexing.{Lexing};
+ghost use Rattle.rule_grammar.specs.Files.{Holds};
+ghost use Rattle.rule_parser.specs.Answers.{Answers, Gives, Parsed, place_of};
 
 use crate::faults::{ParseFault, Stop};
 use crate::statements::statements_of;
 use rule_ast::RuleSet;
 use rule_grammar::Fault;
-use rule_tokens::{Lexed, lex};
+use rule_lexer::{Lexed, lex};
 use std::alloc::Global;
 
 // The place of the token with which so many are left, or of the end.
@@ -26,9 +28,9 @@ fn place_of(places: &[usize], end: usize, left: usize) -> usize
 
 // The rules of a text whose tokens were found.
 fn parsed(alloc: Global, lexed: &Lexed) -> Result<RuleSet, ParseFault>
-    ensures { Parsed lexed.now.lexemes.items lexed.now.places.items lexed.now.end lexed.now.whole result }
+    ensures { Parsed lexed.now.terminals.items lexed.now.places.items lexed.now.end lexed.now.whole result }
 {
-    match statements_of(alloc, &lexed.lexemes) {
+    match statements_of(alloc, &lexed.terminals) {
         Ok(statements) => {
             if lexed.whole {
                 Ok(RuleSet { statements })
@@ -53,11 +55,10 @@ pub fn parse(alloc: Global, text: &str) -> Result<RuleSet, ParseFault>
     // Nothing that it holds is refused.
     ensures only { (rules : List PlainStatement) → Holds text.now rules → Gives rules result }
     ensures shaped { IfOk result (λ r. IsShaped (plain_rules r)) }
+    ensures few_shown { IfOk result (λ r. length (shown_names (plain_rules r)) ≤ length text.now) }
 {
-    match lex(alloc, text) {
-        Ok(lexed) => parsed(alloc, &lexed),
-        Err(_) => Err(ParseFault::Memory),
-    }
+    let lexed = lex(alloc, text)?;
+    parsed(alloc, &lexed)
 }
 
 /// No text holds two lists of rules.

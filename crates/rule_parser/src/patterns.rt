@@ -1,7 +1,7 @@
 //! Patterns, by the levels at which their operators bind.
 
 ghost use Rattle.std.specs.Prelude.{◌≡◌, ◌∷◌, ◌≤◌, ℕ, List, IfOk};
-ghost use Rattle.rule_tokens.specs.declared.lexemes.Lexeme.TheVariants as made;
+ghost use Rattle.rule_lexer.specs.declared.terminals.Terminal.TheVariants as made;
 ghost use Rattle.rule_ast.specs.Trees as trees;
 ghost use Rattle.rule_grammar.specs.Values.{joined_value, part_value, round_value, chain_value, tree_value};
 ghost use Rattle.rule_parser.specs.declared.signs.Sign.TheVariants.{Where};
@@ -16,23 +16,19 @@ use crate::signs::{
 };
 use crate::terms::{Kind, arguments_at};
 use ev_term::{Name, PatAtom, Pats};
-use rule_ast::Pattern;
-use rule_grammar::Which;
-use rule_tokens::Lexeme;
+use rule_ast::{MOST_TICKS, Pattern};
+use rule_grammar::{MOST_BRACKETS, Which};
+use rule_lexer::Terminal;
 use std::alloc::{AllocError, Global};
-
-const DEEPEST: u8 = 32;
-
-const LONGEST: u64 = 1 << 62;
 
 // The atom that begins with a name.
 fn atom_at<'a>(
     alloc: Global,
-    tokens: &'a [Lexeme],
+    tokens: &'a [Terminal],
     name: &Name,
-    rest: &'a [Lexeme],
+    rest: &'a [Terminal],
     ledger: &mut Ledger,
-) -> Result<(Box<Pattern>, &'a [Lexeme]), Stop>
+) -> Result<(Box<Pattern>, &'a [Terminal]), Stop>
     requires named { tokens.now ≡ made.Name name.now ∷ rest.now }
     requires fine { Fine (counted ledger.old) }
     ensures { (d : ℕ) → Answer part_level part_value boxed_pattern tokens.now d (counted ledger.old) (counted ledger.new) result }
@@ -52,17 +48,17 @@ fn atom_at<'a>(
 }
 
 // A length in ticks.
-fn length_at(tokens: &[Lexeme]) -> Result<(u64, &[Lexeme]), Stop>
+fn length_at(tokens: &[Terminal]) -> Result<(u64, &[Terminal]), Stop>
     ensures { LengthAnswer tokens.now result }
 {
     let Some((first, rest)) = take_first(tokens) else {
         return Err(syntax(tokens));
     };
-    let Lexeme::Number(n) = first else {
+    let Terminal::Number(n) = first else {
         return Err(syntax(tokens));
     };
     let ticks = n.value();
-    if ticks > LONGEST {
+    if ticks > MOST_TICKS {
         return Err(limit(Which::Length, tokens));
     }
     Ok((ticks, rest))
@@ -102,19 +98,19 @@ fn joined(
 #[cycle(patterns)]
 fn without_at<'a>(
     alloc: Global,
-    tokens: &'a [Lexeme],
-    rest: &'a [Lexeme],
-    depth: u8,
+    tokens: &'a [Terminal],
+    rest: &'a [Terminal],
+    depth: usize,
     ledger: &mut Ledger,
-) -> Result<(Box<Pattern>, &'a [Lexeme]), Stop>
+) -> Result<(Box<Pattern>, &'a [Terminal]), Stop>
     requires first { tokens.now ≡ made.Not ∷ rest.now }
-    requires deep { depth ≤ 32 }
+    requires deep { depth ≤ MOST_BRACKETS }
     requires fine { Fine (counted ledger.old) }
     ensures { Answer part_level part_value boxed_pattern tokens.now depth (counted ledger.old) (counted ledger.new) result }
 {
     add_part(ledger, tokens)?;
     let inside = expect(rest, Sign::Open)?;
-    if depth >= DEEPEST {
+    if depth >= MOST_BRACKETS {
         return Err(limit(Which::Depth, rest));
     }
     let (inner, rest) = pattern_at(alloc, inside, depth + 1, ledger)?;
@@ -136,17 +132,17 @@ fn without_at<'a>(
 #[cycle(patterns)]
 fn bracketed_at<'a>(
     alloc: Global,
-    tokens: &'a [Lexeme],
-    inside: &'a [Lexeme],
-    depth: u8,
+    tokens: &'a [Terminal],
+    inside: &'a [Terminal],
+    depth: usize,
     ledger: &mut Ledger,
-) -> Result<(Box<Pattern>, &'a [Lexeme]), Stop>
+) -> Result<(Box<Pattern>, &'a [Terminal]), Stop>
     requires first { tokens.now ≡ made.Open ∷ inside.now }
-    requires deep { depth ≤ 32 }
+    requires deep { depth ≤ MOST_BRACKETS }
     requires fine { Fine (counted ledger.old) }
     ensures { Answer round_level round_value boxed_pattern tokens.now depth (counted ledger.old) (counted ledger.new) result }
 {
-    if depth >= DEEPEST {
+    if depth >= MOST_BRACKETS {
         return Err(limit(Which::Depth, tokens));
     }
     let (inner, rest) = pattern_at(alloc, inside, depth + 1, ledger)?;
@@ -158,13 +154,13 @@ fn bracketed_at<'a>(
 #[cycle(patterns)]
 fn round_at<'a>(
     alloc: Global,
-    tokens: &'a [Lexeme],
-    inside: &'a [Lexeme],
-    depth: u8,
+    tokens: &'a [Terminal],
+    inside: &'a [Terminal],
+    depth: usize,
     ledger: &mut Ledger,
-) -> Result<(Box<Pattern>, &'a [Lexeme]), Stop>
+) -> Result<(Box<Pattern>, &'a [Terminal]), Stop>
     requires first { tokens.now ≡ made.Open ∷ inside.now }
-    requires deep { depth ≤ 32 }
+    requires deep { depth ≤ MOST_BRACKETS }
     requires fine { Fine (counted ledger.old) }
     ensures { Answer part_level part_value boxed_pattern tokens.now depth (counted ledger.old) (counted ledger.new) result }
 {
@@ -181,11 +177,11 @@ fn round_at<'a>(
 #[cycle(patterns)]
 fn part_at<'a>(
     alloc: Global,
-    tokens: &'a [Lexeme],
-    depth: u8,
+    tokens: &'a [Terminal],
+    depth: usize,
     ledger: &mut Ledger,
-) -> Result<(Box<Pattern>, &'a [Lexeme]), Stop>
-    requires deep { depth ≤ 32 }
+) -> Result<(Box<Pattern>, &'a [Terminal]), Stop>
+    requires deep { depth ≤ MOST_BRACKETS }
     requires fine { Fine (counted ledger.old) }
     ensures { Answer part_level part_value boxed_pattern tokens.now depth (counted ledger.old) (counted ledger.new) result }
 {
@@ -193,9 +189,9 @@ fn part_at<'a>(
         return Err(syntax(tokens));
     };
     match first {
-        Lexeme::Name(name) => atom_at(alloc, tokens, name, rest, ledger),
-        Lexeme::Not => without_at(alloc, tokens, rest, depth, ledger),
-        Lexeme::Open => round_at(alloc, tokens, rest, depth, ledger),
+        Terminal::Name(name) => atom_at(alloc, tokens, name, rest, ledger),
+        Terminal::Not => without_at(alloc, tokens, rest, depth, ledger),
+        Terminal::Open => round_at(alloc, tokens, rest, depth, ledger),
         _ => Err(syntax(tokens)),
     }
 }
@@ -203,11 +199,11 @@ fn part_at<'a>(
 #[cycle(patterns)]
 fn chain_at<'a>(
     alloc: Global,
-    tokens: &'a [Lexeme],
-    depth: u8,
+    tokens: &'a [Terminal],
+    depth: usize,
     ledger: &mut Ledger,
-) -> Result<(Box<Pattern>, &'a [Lexeme]), Stop>
-    requires deep { depth ≤ 32 }
+) -> Result<(Box<Pattern>, &'a [Terminal]), Stop>
+    requires deep { depth ≤ MOST_BRACKETS }
     requires fine { Fine (counted ledger.old) }
     ensures { AnswerTo chain_level chain_value boxed_pattern LacksJoint tokens.now depth (counted ledger.old) (counted ledger.new) result }
 {
@@ -225,11 +221,11 @@ fn chain_at<'a>(
 #[cycle(patterns)]
 pub fn pattern_at<'a>(
     alloc: Global,
-    tokens: &'a [Lexeme],
-    depth: u8,
+    tokens: &'a [Terminal],
+    depth: usize,
     ledger: &mut Ledger,
-) -> Result<(Box<Pattern>, &'a [Lexeme]), Stop>
-    requires deep { depth ≤ 32 }
+) -> Result<(Box<Pattern>, &'a [Terminal]), Stop>
+    requires deep { depth ≤ MOST_BRACKETS }
     requires fine { Fine (counted ledger.old) }
     ensures { AnswerTo tree_level tree_value boxed_pattern (Lacks Where) tokens.now depth (counted ledger.old) (counted ledger.new) result }
 {

@@ -2,8 +2,8 @@
 
 ghost use Rattle.std.specs.Prelude.{◌≡◌, ◌∷◌, [], length, IfOk, IfErr, OnErr, MatchOption, Some};
 ghost use Rattle.rule_grammar.specs.Values.{adding_value, scaling_value};
-ghost use Rattle.rule_parser.specs.Signs.{sign_of, lexeme_of, adding_of, scaling_of, joint_lexeme, bound_lexeme, adding_lexeme, scaling_lexeme, Lacks, LacksJoint, LacksBound, LacksAdding, LacksScaling, LacksCompare};
-ghost use Rattle.rule_tokens.specs.declared.lexemes.Lexeme.TheVariants as made;
+ghost use Rattle.rule_parser.specs.Signs.{sign_of, terminal_of, adding_of, scaling_of, joint_terminal, bound_terminal, adding_terminal, scaling_terminal, Lacks, LacksJoint, LacksBound, LacksAdding, LacksScaling, LacksCompare};
+ghost use Rattle.rule_lexer.specs.declared.terminals.Terminal.TheVariants as made;
 ghost use Rattle.rule_grammar.specs.declared.faults.Fault.TheVariants as fault;
 ghost use Rattle.rule_grammar.specs.declared.faults.Which.{Which};
 
@@ -11,7 +11,7 @@ use crate::faults::Stop;
 use ev_term::Op;
 use rule_ast::{Calc, Cmp};
 use rule_grammar::{Fault, Which};
-use rule_tokens::Lexeme;
+use rule_lexer::Terminal;
 
 /// A token that is a word or a sign of its own.
 #[derive(Clone, Copy, PartialEq, Eq)]
@@ -87,40 +87,40 @@ impl Scaling {
     }
 }
 
-pub fn sign_of(lexeme: &Lexeme) -> Option<Sign>
-    ensures { result ≡ sign_of lexeme.now }
+pub fn sign_of(terminal: &Terminal) -> Option<Sign>
+    ensures { result ≡ sign_of terminal.now }
 {
-    match lexeme {
-        Lexeme::Arrow => Some(Sign::Arrow),
-        Lexeme::Bang => Some(Sign::Bang),
-        Lexeme::Both => Some(Sign::Both),
-        Lexeme::Close => Some(Sign::Close),
-        Lexeme::Comma => Some(Sign::Comma),
-        Lexeme::Either => Some(Sign::Either),
-        Lexeme::End => Some(Sign::End),
-        Lexeme::Length => Some(Sign::Length),
-        Lexeme::Limits => Some(Sign::Limits),
-        Lexeme::Minus => Some(Sign::Minus),
-        Lexeme::Not => Some(Sign::Not),
-        Lexeme::Open => Some(Sign::Open),
-        Lexeme::Show => Some(Sign::Show),
-        Lexeme::Slash => Some(Sign::Slash),
-        Lexeme::Square => Some(Sign::Square),
-        Lexeme::Where => Some(Sign::Where),
-        Lexeme::Within => Some(Sign::Within),
+    match terminal {
+        Terminal::Arrow => Some(Sign::Arrow),
+        Terminal::Bang => Some(Sign::Bang),
+        Terminal::Both => Some(Sign::Both),
+        Terminal::Close => Some(Sign::Close),
+        Terminal::Comma => Some(Sign::Comma),
+        Terminal::Either => Some(Sign::Either),
+        Terminal::End => Some(Sign::End),
+        Terminal::Length => Some(Sign::Length),
+        Terminal::Limits => Some(Sign::Limits),
+        Terminal::Minus => Some(Sign::Minus),
+        Terminal::Not => Some(Sign::Not),
+        Terminal::Open => Some(Sign::Open),
+        Terminal::Show => Some(Sign::Show),
+        Terminal::Slash => Some(Sign::Slash),
+        Terminal::Square => Some(Sign::Square),
+        Terminal::Where => Some(Sign::Where),
+        Terminal::Within => Some(Sign::Within),
         _ => None,
     }
 }
 
-pub fn take_first(tokens: &[Lexeme]) -> Option<(&Lexeme, &[Lexeme])>
+pub fn take_first(tokens: &[Terminal]) -> Option<(&Terminal, &[Terminal])>
     ensures { MatchOption result (tokens.now ≡ []) (λ x. tokens.now ≡ x.0.now ∷ x.1.now) }
 {
     tokens.split_first()
 }
 
 /// What stands behind the sign, where this stands first.
-pub fn skip(tokens: &[Lexeme], wanted: Sign) -> Option<&[Lexeme]>
-    ensures { MatchOption result (Lacks wanted tokens.now) (λ rest. tokens.now ≡ lexeme_of wanted ∷ rest.now) }
+pub fn skip(tokens: &[Terminal], wanted: Sign) -> Option<&[Terminal]>
+    ensures { MatchOption result (Lacks wanted tokens.now) (λ rest. tokens.now ≡ terminal_of wanted ∷ rest.now) }
 {
     let (first, rest) = take_first(tokens)?;
     match sign_of(first) {
@@ -129,20 +129,20 @@ pub fn skip(tokens: &[Lexeme], wanted: Sign) -> Option<&[Lexeme]>
     }
 }
 
-pub fn syntax(tokens: &[Lexeme]) -> Stop
+pub fn syntax(tokens: &[Terminal]) -> Stop
     ensures { result ≡ Stop.Fault (fault.Syntax (length tokens.now)) }
 {
     Stop::Fault(Fault::Syntax(tokens.len()))
 }
 
-pub fn limit(which: Which, tokens: &[Lexeme]) -> Stop
+pub fn limit(which: Which, tokens: &[Terminal]) -> Stop
     ensures { result ≡ Stop.Fault (fault.Limit which (length tokens.now)) }
 {
     Stop::Fault(Fault::Limit(which, tokens.len()))
 }
 
-pub fn expect(tokens: &[Lexeme], wanted: Sign) -> Result<&[Lexeme], Stop>
-    ensures ok { IfOk result (λ rest. tokens.now ≡ lexeme_of wanted ∷ rest.now) }
+pub fn expect(tokens: &[Terminal], wanted: Sign) -> Result<&[Terminal], Stop>
+    ensures ok { IfOk result (λ rest. tokens.now ≡ terminal_of wanted ∷ rest.now) }
     ensures err { IfErr result (λ e. e ≡ Stop.Fault (fault.Syntax (length tokens.now))) }
     ensures lacks { OnErr result (Lacks wanted tokens.now) }
 {
@@ -152,57 +152,57 @@ pub fn expect(tokens: &[Lexeme], wanted: Sign) -> Result<&[Lexeme], Stop>
     }
 }
 
-pub fn take_joint(tokens: &[Lexeme]) -> Option<(Joint, &[Lexeme])>
-    ensures { MatchOption result (LacksJoint tokens.now) (λ x. tokens.now ≡ joint_lexeme x.0 ∷ x.1.now) }
+pub fn take_joint(tokens: &[Terminal]) -> Option<(Joint, &[Terminal])>
+    ensures { MatchOption result (LacksJoint tokens.now) (λ x. tokens.now ≡ joint_terminal x.0 ∷ x.1.now) }
 {
     let (first, rest) = take_first(tokens)?;
     match first {
-        Lexeme::Op(op) => Some((Joint::Span(*op), rest)),
-        Lexeme::Or => Some((Joint::Or, rest)),
+        Terminal::Op(op) => Some((Joint::Span(*op), rest)),
+        Terminal::Or => Some((Joint::Or, rest)),
         _ => None,
     }
 }
 
-pub fn take_adding(tokens: &[Lexeme]) -> Option<(Adding, &[Lexeme])>
-    ensures { MatchOption result (LacksAdding tokens.now) (λ x. tokens.now ≡ adding_lexeme x.0 ∷ x.1.now) }
+pub fn take_adding(tokens: &[Terminal]) -> Option<(Adding, &[Terminal])>
+    ensures { MatchOption result (LacksAdding tokens.now) (λ x. tokens.now ≡ adding_terminal x.0 ∷ x.1.now) }
 {
     let (first, rest) = take_first(tokens)?;
     match first {
-        Lexeme::Plus => Some((Adding::Plus, rest)),
-        Lexeme::Minus => Some((Adding::Minus, rest)),
+        Terminal::Plus => Some((Adding::Plus, rest)),
+        Terminal::Minus => Some((Adding::Minus, rest)),
         _ => None,
     }
 }
 
-pub fn take_scaling(tokens: &[Lexeme]) -> Option<(Scaling, &[Lexeme])>
-    ensures { MatchOption result (LacksScaling tokens.now) (λ x. tokens.now ≡ scaling_lexeme x.0 ∷ x.1.now) }
+pub fn take_scaling(tokens: &[Terminal]) -> Option<(Scaling, &[Terminal])>
+    ensures { MatchOption result (LacksScaling tokens.now) (λ x. tokens.now ≡ scaling_terminal x.0 ∷ x.1.now) }
 {
     let (first, rest) = take_first(tokens)?;
     match first {
-        Lexeme::Star => Some((Scaling::Star, rest)),
-        Lexeme::Slash => Some((Scaling::Slash, rest)),
-        Lexeme::Percent => Some((Scaling::Percent, rest)),
+        Terminal::Star => Some((Scaling::Star, rest)),
+        Terminal::Slash => Some((Scaling::Slash, rest)),
+        Terminal::Percent => Some((Scaling::Percent, rest)),
         _ => None,
     }
 }
 
-pub fn take_compare(tokens: &[Lexeme]) -> Option<(Cmp, &[Lexeme])>
+pub fn take_compare(tokens: &[Terminal]) -> Option<(Cmp, &[Terminal])>
     ensures { MatchOption result (LacksCompare tokens.now) (λ x. tokens.now ≡ made.Compare x.0 ∷ x.1.now) }
 {
     let (first, rest) = take_first(tokens)?;
     match first {
-        Lexeme::Compare(cmp) => Some((*cmp, rest)),
+        Terminal::Compare(cmp) => Some((*cmp, rest)),
         _ => None,
     }
 }
 
-pub fn take_bound(tokens: &[Lexeme]) -> Option<(Bound, &[Lexeme])>
-    ensures { MatchOption result (LacksBound tokens.now) (λ x. tokens.now ≡ bound_lexeme x.0 ∷ x.1.now) }
+pub fn take_bound(tokens: &[Terminal]) -> Option<(Bound, &[Terminal])>
+    ensures { MatchOption result (LacksBound tokens.now) (λ x. tokens.now ≡ bound_terminal x.0 ∷ x.1.now) }
 {
     let (first, rest) = take_first(tokens)?;
     match first {
-        Lexeme::Length => Some((Bound::Exact, rest)),
-        Lexeme::Within => Some((Bound::Most, rest)),
+        Terminal::Length => Some((Bound::Exact, rest)),
+        Terminal::Within => Some((Bound::Most, rest)),
         _ => None,
     }
 }

@@ -1,6 +1,6 @@
 //! Statements of a rule file.
 
-ghost use Rattle.std.specs.Prelude.{◌≡◌, ◌∷◌, ◌≤◌, List};
+ghost use Rattle.std.specs.Prelude.{◌≡◌, ◌∷◌, ◌≤◌, List, IfOk};
 ghost use Rattle.rule_ast.specs.Plain.{plain_rule};
 ghost use Rattle.rule_grammar.specs.Machine.{State.HeadName, State.WantItem, ItemsHead.FirstShown};
 ghost use Rattle.rule_parser.specs.Steps.{StatementAnswer, ItemAnswer, NextAnswer, WholeAnswer, clause_of, show_of, named_state, shown_state};
@@ -10,27 +10,35 @@ use crate::heads::head_at;
 use crate::ledger::Ledger;
 use crate::patterns::pattern_at;
 use crate::signs::{Sign, expect, limit, skip, syntax, take_first};
-use ev_term::{Name, NameArity};
-use rule_ast::{Rule, Statement};
+use ev_term::{MOST_ARGUMENTS, Name, NameArity};
+use indexmap::IndexSet;
+use rule_ast::{MOST_STATEMENTS, Rule, Statement};
 use rule_grammar::Which;
-use rule_tokens::Lexeme;
-use std::alloc::Global;
+use rule_lexer::Terminal;
+use std::alloc::{AllocError, Global};
 
-const WIDEST: u64 = 16;
-
-const MOST: usize = 1024;
+// The names in the order in which they came.
+fn in_list(alloc: Global, names: IndexSet<Name>) -> Result<Vec<Name>, AllocError>
+    ensures { IfOk result (λ list. list.items ≡ names.keys) }
+{
+    let mut list = Vec::new(alloc);
+    for name in names {
+        list.push(name)?;
+    }
+    Ok(list)
+}
 
 // The rule whose head's name stood before.
 fn rule_at<'a>(
     alloc: Global,
     name: &Name,
-    tokens: &'a [Lexeme],
-) -> Result<(Rule, &'a [Lexeme]), Stop>
+    tokens: &'a [Terminal],
+) -> Result<(Rule, &'a [Terminal]), Stop>
     ensures { StatementAnswer clause_of (named_state name.now) tokens.now result }
 {
     let mut ledger = Ledger {
         parts: 0,
-        names: Vec::new(alloc),
+        names: IndexSet::new(alloc),
     };
     let (head, rest) = head_at(alloc, name, tokens, &mut ledger)?;
     let (body, rest) = pattern_at(alloc, rest, 0, &mut ledger)?;
@@ -40,24 +48,24 @@ fn rule_at<'a>(
     let rule = Rule {
         head,
         body,
-        vars: names,
+        vars: in_list(alloc, names)?,
     };
     Ok((rule, rest))
 }
 
 // A shown name with its number of arguments.
-fn item_at(tokens: &[Lexeme]) -> Result<(NameArity, &[Lexeme]), Stop>
+fn item_at(tokens: &[Terminal]) -> Result<(NameArity, &[Terminal]), Stop>
     ensures { ItemAnswer tokens.now result }
 {
-    let Some((Lexeme::Name(name), rest)) = take_first(tokens) else {
+    let Some((Terminal::Name(name), rest)) = take_first(tokens) else {
         return Err(syntax(tokens));
     };
     let rest = expect(rest, Sign::Slash)?;
-    let Some((Lexeme::Number(n), behind)) = take_first(rest) else {
+    let Some((Terminal::Number(n), behind)) = take_first(rest) else {
         return Err(syntax(rest));
     };
     let arity = n.value();
-    if arity > WIDEST {
+    if arity > MOST_ARGUMENTS as u64 {
         return Err(limit(Which::TermWidth, rest));
     }
     let name = name.share()?;
@@ -66,7 +74,7 @@ fn item_at(tokens: &[Lexeme]) -> Result<(NameArity, &[Lexeme]), Stop>
 }
 
 // The names of a `show`, whose word stood before.
-fn show_at(alloc: Global, tokens: &[Lexeme]) -> Result<(Vec<NameArity>, &[Lexeme]), Stop>
+fn show_at(alloc: Global, tokens: &[Terminal]) -> Result<(Vec<NameArity>, &[Terminal]), Stop>
     ensures { StatementAnswer show_of shown_state tokens.now result }
 {
     let (first, mut rest) = item_at(tokens)?;
@@ -84,24 +92,24 @@ fn show_at(alloc: Global, tokens: &[Lexeme]) -> Result<(Vec<NameArity>, &[Lexeme
 // The statement that begins with a token, behind so many.
 fn statement_at<'a>(
     alloc: Global,
-    tokens: &'a [Lexeme],
-    first: &Lexeme,
-    rest: &'a [Lexeme],
+    tokens: &'a [Terminal],
+    first: &Terminal,
+    rest: &'a [Terminal],
     done: usize,
-) -> Result<(Statement, &'a [Lexeme]), Stop>
+) -> Result<(Statement, &'a [Terminal]), Stop>
     requires { tokens.now ≡ first.now ∷ rest.now }
     ensures { NextAnswer tokens.now done result }
 {
     match first {
-        Lexeme::Name(name) => {
-            if done >= MOST {
+        Terminal::Name(name) => {
+            if done >= MOST_STATEMENTS {
                 return Err(limit(Which::Statements, tokens));
             }
             let (rule, rest) = rule_at(alloc, name, rest)?;
             Ok((Statement::Rule(rule), rest))
         }
-        Lexeme::Show => {
-            if done >= MOST {
+        Terminal::Show => {
+            if done >= MOST_STATEMENTS {
                 return Err(limit(Which::Statements, tokens));
             }
             let (names, rest) = show_at(alloc, rest)?;
@@ -112,7 +120,7 @@ fn statement_at<'a>(
 }
 
 /// The statements that all the tokens are.
-pub fn statements_of(alloc: Global, tokens: &[Lexeme]) -> Result<Vec<Statement>, Stop>
+pub fn statements_of(alloc: Global, tokens: &[Terminal]) -> Result<Vec<Statement>, Stop>
     ensures { WholeAnswer tokens.now result }
 {
     let mut statements = Vec::new(alloc);

@@ -2,20 +2,16 @@
 
 ghost use Rattle.std.specs.Prelude.{◌≡◌, ◌∷◌, ◌≤◌, List};
 ghost use Rattle.ev_term.specs.declared.terms.Pat.{Pat};
-ghost use Rattle.rule_tokens.specs.declared.lexemes.Lexeme.TheVariants as made;
+ghost use Rattle.rule_lexer.specs.declared.terminals.Terminal.TheVariants as made;
 ghost use Rattle.rule_parser.specs.Steps.{counted, Fine, same, Answer, ListAnswer, WordAnswer, NegativeAnswer, LeafAnswer, term_level, term_of};
 
 use crate::faults::Stop;
 use crate::ledger::{Ledger, slot_of};
 use crate::signs::{Sign, expect, limit, skip, syntax, take_first};
-use ev_term::{Name, Pat, Pats};
+use ev_term::{MOST_ARGUMENTS, MOST_DEPTH, Name, Pat, Pats};
 use rule_grammar::Which;
-use rule_tokens::Lexeme;
+use rule_lexer::Terminal;
 use std::alloc::Global;
-
-const DEEPEST: u8 = 16;
-
-const WIDEST: usize = 16;
 
 /// What may stand for a term: nothing, a variable, or a variable or `_`.
 #[derive(Clone, Copy, PartialEq, Eq)]
@@ -26,30 +22,30 @@ pub enum Kind {
 }
 
 // The term behind a minus sign.
-fn negative_at(tokens: &[Lexeme]) -> Result<(Pat, &[Lexeme]), Stop>
+fn negative_at(tokens: &[Terminal]) -> Result<(Pat, &[Terminal]), Stop>
     ensures { NegativeAnswer tokens.now result }
 {
     let Some((first, rest)) = take_first(tokens) else {
         return Err(syntax(tokens));
     };
     match first {
-        Lexeme::Number(n) => Ok((Pat::Num(-(n.value() as i64)), rest)),
-        Lexeme::Huge => Ok((Pat::Num(i64::MIN), rest)),
+        Terminal::Number(n) => Ok((Pat::Num(-(n.value() as i64)), rest)),
+        Terminal::Huge => Ok((Pat::Num(i64::MIN), rest)),
         _ => Err(syntax(tokens)),
     }
 }
 
 /// The number or text that stands first.
-pub fn word_at(tokens: &[Lexeme]) -> Result<Option<(Pat, &[Lexeme])>, Stop>
+pub fn word_at(tokens: &[Terminal]) -> Result<Option<(Pat, &[Terminal])>, Stop>
     ensures { WordAnswer tokens.now result }
 {
     let Some((first, rest)) = take_first(tokens) else {
         return Ok(None);
     };
     match first {
-        Lexeme::Number(n) => Ok(Some((Pat::Num(n.value() as i64), rest))),
-        Lexeme::Text(text) => Ok(Some((Pat::Text(text.share()?), rest))),
-        Lexeme::Minus => {
+        Terminal::Number(n) => Ok(Some((Pat::Num(n.value() as i64), rest))),
+        Terminal::Text(text) => Ok(Some((Pat::Text(text.share()?), rest))),
+        Terminal::Minus => {
             let (term, rest) = negative_at(rest)?;
             Ok(Some((term, rest)))
         }
@@ -59,8 +55,8 @@ pub fn word_at(tokens: &[Lexeme]) -> Result<Option<(Pat, &[Lexeme])>, Stop>
 
 // What stands for a term and is none, where the first token is that.
 fn leaf_at(
-    tokens: &[Lexeme],
-    first: &Lexeme,
+    tokens: &[Terminal],
+    first: &Terminal,
     kind: Kind,
     ledger: &mut Ledger,
 ) -> Result<Option<Pat>, Stop>
@@ -68,11 +64,11 @@ fn leaf_at(
     ensures { LeafAnswer tokens.now first.now kind (counted ledger.old) (counted ledger.new) result }
 {
     match first {
-        Lexeme::Var(name) => match kind {
+        Terminal::Var(name) => match kind {
             Kind::Ground => Ok(None),
             _ => Ok(Some(Pat::Var(slot_of(ledger, name, tokens)?))),
         },
-        Lexeme::Wild => match kind {
+        Terminal::Wild => match kind {
             Kind::Argument => Ok(Some(Pat::Any)),
             _ => Ok(None),
         },
@@ -84,22 +80,22 @@ fn leaf_at(
 #[cycle(terms)]
 fn named_at<'a>(
     alloc: Global,
-    tokens: &'a [Lexeme],
+    tokens: &'a [Terminal],
     name: &Name,
-    rest: &'a [Lexeme],
+    rest: &'a [Terminal],
     kind: Kind,
-    level: u8,
+    level: usize,
     ledger: &mut Ledger,
-) -> Result<(Pat, &'a [Lexeme]), Stop>
+) -> Result<(Pat, &'a [Terminal]), Stop>
     requires named { tokens.now ≡ made.Name name.now ∷ rest.now }
-    requires deep { level ≤ 16 }
+    requires deep { level ≤ MOST_DEPTH }
     requires fine { Fine (counted ledger.old) }
     ensures { Answer (term_level kind) (term_of kind) same tokens.now level (counted ledger.old) (counted ledger.new) result }
 {
     let Some(inside) = skip(rest, Sign::Open) else {
         return Ok((Pat::Sym(name.share()?), rest));
     };
-    if level >= DEEPEST {
+    if level >= MOST_DEPTH {
         return Err(limit(Which::TermDepth, rest));
     }
     let (args, rest) = arguments_at(alloc, inside, kind, level + 1, ledger)?;
@@ -110,12 +106,12 @@ fn named_at<'a>(
 #[cycle(terms)]
 pub fn term_at<'a>(
     alloc: Global,
-    tokens: &'a [Lexeme],
+    tokens: &'a [Terminal],
     kind: Kind,
-    level: u8,
+    level: usize,
     ledger: &mut Ledger,
-) -> Result<(Pat, &'a [Lexeme]), Stop>
-    requires deep { level ≤ 16 }
+) -> Result<(Pat, &'a [Terminal]), Stop>
+    requires deep { level ≤ MOST_DEPTH }
     requires fine { Fine (counted ledger.old) }
     ensures { Answer (term_level kind) (term_of kind) same tokens.now level (counted ledger.old) (counted ledger.new) result }
 {
@@ -125,7 +121,7 @@ pub fn term_at<'a>(
     let Some((first, rest)) = take_first(tokens) else {
         return Err(syntax(tokens));
     };
-    if let Lexeme::Name(name) = first {
+    if let Terminal::Name(name) = first {
         return named_at(alloc, tokens, name, rest, kind, level, ledger);
     }
     match leaf_at(tokens, first, kind, ledger)? {
@@ -138,12 +134,12 @@ pub fn term_at<'a>(
 #[cycle(terms)]
 pub fn arguments_at<'a>(
     alloc: Global,
-    tokens: &'a [Lexeme],
+    tokens: &'a [Terminal],
     kind: Kind,
-    level: u8,
+    level: usize,
     ledger: &mut Ledger,
-) -> Result<(Vec<Pat>, &'a [Lexeme]), Stop>
-    requires deep { level ≤ 16 }
+) -> Result<(Vec<Pat>, &'a [Terminal]), Stop>
+    requires deep { level ≤ MOST_DEPTH }
     requires fine { Fine (counted ledger.old) }
     ensures { ListAnswer kind tokens.now level (counted ledger.old) (counted ledger.new) result }
 {
@@ -151,7 +147,7 @@ pub fn arguments_at<'a>(
     let mut args = Vec::new(alloc);
     args.push(first)?;
     while let Some(more) = skip(rest, Sign::Comma) {
-        if args.len() >= WIDEST {
+        if args.len() >= MOST_ARGUMENTS {
             return Err(limit(Which::TermWidth, rest));
         }
         let (arg, after) = term_at(alloc, more, kind, level, ledger)?;

@@ -6,7 +6,7 @@ use Rattle.std.proofs.lemmas.Bool.{eqb-true}
 use Rattle.std.proofs.lemmas.List.{map-append, take_more, length-take-le}
 use Rattle.std.proofs.lemmas.List.Sums.{fold_push}
 use Rattle.ev_term.specs.declared.terms.Pat.{Pat}
-use Rattle.rule_tokens.specs.declared.lexemes.Lexeme.TheVariants as t
+use Rattle.rule_lexer.specs.declared.terminals.Terminal.TheVariants as t
 use Rattle.rule_grammar.specs.Trees.{Term, Term.Lone, Arguments, Arguments.First, Arguments.Next, Literal, Literal.Digits, Literal.Minus, Literal.Least}
 use Rattle.rule_grammar.specs.Marks.{Marked, Role.Quiet, Role.Counts, Role.Deepens}
 use Rattle.rule_grammar.specs.Tokens.{quiet, literal, count_of, arguments}

@@ -4,9 +4,9 @@ use Rattle.ev_term.specs.declared.terms.Pat.{Pat}
 use Rattle.rule_ast.specs.declared.conditions.Calc.{Calc}
 use Rattle.rule_ast.specs.declared.conditions.Calc.TheVariants.{Add, Sub, Mul, Div, Rem}
 use Rattle.rule_ast.specs.declared.conditions.Cmp.{Cmp}
-use Rattle.rule_tokens.specs.declared.lexemes.Lexeme.{Lexeme}
-use Rattle.rule_tokens.specs.declared.lexemes.Lexeme.TheVariants as t
-use Rattle.rule_tokens.specs.Writing.{spelling}
+use Rattle.rule_lexer.specs.declared.terminals.Terminal.{Terminal}
+use Rattle.rule_lexer.specs.declared.terminals.Terminal.TheVariants as t
+use Rattle.rule_lexer.specs.Writing.{spelling}
 use Rattle.rule_grammar.specs.Trees.{Literal.Digits, Literal.Minus, Literal.Least, Literal.Symbol, Literal.Quoted, Term, Term.Leaf, Term.Lone, Term.Compound, Arguments}
 use Rattle.rule_grammar.specs.Trees.{Wanted}
 use Rattle.rule_grammar.specs.Trees.{Joint}
@@ -24,10 +24,10 @@ use Rattle.rule_writer.specs.Writes.{Appends, when, between, calc_rank, calc_tok
 use Rattle.rule_writer.proofs.Appending.{pushes, then, seen, instead}
 use Rattle.rule_writer.proofs.Levels.{unit_at, product_at, sum_at, negation_at, all_at, condition_at, round_at, part_at, chain_at, tree_at}
 
-spaced_bytes : (x : Lexeme) (rest : List Marked) → bytes_of (binary x rest) ≡ between x ++ bytes_of rest
+spaced_bytes : (x : Terminal) (rest : List Marked) → bytes_of (binary x rest) ≡ between x ++ bytes_of rest
 spaced_bytes x rest = ap (λ bs. 32 ∷ bs) (sym (append_assoc (spelling x) (32 ∷ []) (bytes_of rest)))
 
-in_between : {a b c e : List ℕ} {f g : List Marked → List Marked} (x : Lexeme) → Appends a b f → c ≡ b ++ between x → Appends c e g → Appends a e (λ rest. f (binary x (g rest)))
+in_between : {a b c e : List ℕ} {f g : List Marked → List Marked} (x : Terminal) → Appends a b f → c ≡ b ++ between x → Appends c e g → Appends a e (λ rest. f (binary x (g rest)))
 in_between x p q r = then p (then (pushes (between x) (binary x) q (spaced_bytes x)) r)
 
 -- in brackets where they are wanted

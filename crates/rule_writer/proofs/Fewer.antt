@@ -4,9 +4,9 @@ use Rattle.std.specs.List.{list_all}
 use Rattle.std.proofs.lemmas.Bool.{eqb-true, ltb-true, and_parts, and_from}
 use Rattle.std.proofs.lemmas.Bool.Decides.{nat_tests}
 use Rattle.std.proofs.lemmas.Int.{ints}
-use Rattle.rule_tokens.specs.declared.lexemes.Lexeme.{Lexeme}
-use Rattle.rule_tokens.specs.declared.lexemes.Lexeme.TheVariants as t
-use Rattle.rule_tokens.specs.Writing.{is_proper}
+use Rattle.rule_lexer.specs.declared.terminals.Terminal.{Terminal}
+use Rattle.rule_lexer.specs.declared.terminals.Terminal.TheVariants as t
+use Rattle.rule_lexer.specs.Writing.{is_proper}
 use Rattle.rule_grammar.specs.declared.faults.Which.{Which}
 use Rattle.rule_grammar.specs.Trees.{Literal, Literal.Digits, Literal.Minus, Literal.Least, Literal.Symbol, Literal.Quoted, Term, Term.Leaf, Term.Lone, Term.Compound, Arguments, Arguments.First, Arguments.Next}
 use Rattle.rule_grammar.specs.Trees.{HeadTerm, HeadTerm.Leading, HeadTerm.Fixed, HeadTerms, HeadTerms.FirstTerm, HeadTerms.NextTerm, Heading, Heading.Plainly, Heading.Applied}
@@ -33,9 +33,9 @@ Inner r = Unit {0}
 -- whether statements may begin among them
 pub data Fewer (many : Bool) : List Marked → List Marked → Type 0 where
   Neither : Fewer many [] []
-  Same : (r : Role) (x : Lexeme) {ms ns : List Marked} → Inner r → Fewer many ms ns → Fewer many ((r, x) ∷ ms) ((r, x) ∷ ns)
-  Begins : (n : ℕ) (x : Lexeme) {ms ns : List Marked} → many ≡ true → Fewer many ms ns → Fewer many ((Starts n, x) ∷ ms) ((Starts n, x) ∷ ns)
-  Nested : (d e : ℕ) (x : Lexeme) {ms ns : List Marked} → d ≤ e → Fewer many ms ns → Fewer many ((Nests d, x) ∷ ms) ((Nests e, x) ∷ ns)
+  Same : (r : Role) (x : Terminal) {ms ns : List Marked} → Inner r → Fewer many ms ns → Fewer many ((r, x) ∷ ms) ((r, x) ∷ ns)
+  Begins : (n : ℕ) (x : Terminal) {ms ns : List Marked} → many ≡ true → Fewer many ms ns → Fewer many ((Starts n, x) ∷ ms) ((Starts n, x) ∷ ns)
+  Nested : (d e : ℕ) (x : Terminal) {ms ns : List Marked} → d ≤ e → Fewer many ms ns → Fewer many ((Nests d, x) ∷ ms) ((Nests e, x) ∷ ns)
   NoOpen : (d : ℕ) {ms ns : List Marked} → Fewer many ms ns → Fewer many ms ((Nests d, t.Open) ∷ ns)
   NoClose : {ms ns : List Marked} → Fewer many ms ns → Fewer many ms ((Quiet, t.Close) ∷ ns)
   Zero : (r : Role) {ms ns : List Marked} → Inner r → Fewer many ms ns → Fewer many ((r, t.Number 0) ∷ ms) ((r, t.Minus) ∷ (Quiet, t.Number 0) ∷ ns)
@@ -88,10 +88,10 @@ also true c d f h = f h
 also false c d f h = h
 
 -- every token passes a test
-abbrev pub AllTokens : (Lexeme → Bool) → List Marked → Type 0
+abbrev pub AllTokens : (Terminal → Bool) → List Marked → Type 0
 AllTokens p ms = list_all p (bare ms) ≡ true
 
-pub kept : (p : Lexeme → Bool) → p t.Huge ≡ true → {many : Bool} {ms ns : List Marked} → Fewer many ms ns → AllTokens p ns → AllTokens p ms
+pub kept : (p : Terminal → Bool) → p t.Huge ≡ true → {many : Bool} {ms ns : List Marked} → Fewer many ms ns → AllTokens p ns → AllTokens p ms
 kept p u Neither h = h
 kept p u (Same r x i f) h = also (p x) _ _ (kept p u f) h
 kept p u (Begins n x m f) h = also (p x) _ _ (kept p u f) h
@@ -136,14 +136,14 @@ fewer_literal r i (Symbol name) f = Same r (t.Name name) i f
 fewer_literal r i (Quoted bytes) f = Same r (t.Text bytes) i f
 
 mutual
-  fewer_term : {many : Bool} {W : Type 0} (spell : W → Lexeme) (r : Role) → Inner r → (d : ℕ) (a : Term W) {ms ns : List Marked} → Fewer many ms ns
+  fewer_term : {many : Bool} {W : Type 0} (spell : W → Terminal) (r : Role) → Inner r → (d : ℕ) (a : Term W) {ms ns : List Marked} → Fewer many ms ns
       → Fewer many (term spell r d (normal_term a) ms) (term spell r d a ns)
   fewer_term spell r i d (Leaf w) f = Same r (spell w) i f
   fewer_term spell r i d (Lone l) f = fewer_literal r i l f
   fewer_term spell r i d (Compound name as') f =
       Same r (t.Name name) i (Same (Deepens (d + 1)) t.Open tt (fewer_arguments spell (d + 1) as' (Same Quiet t.Close tt f)))
 
-  fewer_arguments : {many : Bool} {W : Type 0} (spell : W → Lexeme) (d : ℕ) (as' : Arguments W) {ms ns : List Marked} → Fewer many ms ns
+  fewer_arguments : {many : Bool} {W : Type 0} (spell : W → Terminal) (d : ℕ) (as' : Arguments W) {ms ns : List Marked} → Fewer many ms ns
       → Fewer many (arguments spell d (normal_arguments as') ms) (arguments spell d as' ns)
   fewer_arguments spell d (First a) f = fewer_term spell Quiet tt d a f
   fewer_arguments {many} {W} spell d (Next as' a) {ms} {ns} f =

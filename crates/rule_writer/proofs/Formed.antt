@@ -10,8 +10,8 @@ use Rattle.ev_term.specs.declared.terms.Pat.TheOpen.{Pat-F}
 use Rattle.ev_term.specs.declared.terms.Pat.TheVariants as pat
 use Rattle.ev_term.specs.declared.terms.Pat.TheFolds.{fold_out-Pat, map-Pat}
 use Rattle.rule_ast.specs.Trees.{PlainPattern}
-use Rattle.rule_tokens.specs.declared.lexemes.Lexeme.{Lexeme}
-use Rattle.rule_tokens.specs.declared.lexemes.Lexeme.TheVariants as t
+use Rattle.rule_lexer.specs.declared.terminals.Terminal.{Terminal}
+use Rattle.rule_lexer.specs.declared.terminals.Terminal.TheVariants as t
 use Rattle.rule_grammar.specs.Trees.{Literal, Literal.Digits, Literal.Minus, Literal.Least, Literal.Symbol, Literal.Quoted, Term, Term.Leaf, Term.Lone, Term.Compound, Arguments, Arguments.First, Arguments.Next}
 use Rattle.rule_grammar.specs.Trees.{Wanted, Wanted.Variable, Wanted.Anything, HeadTerm, HeadTerm.Leading, HeadTerm.Fixed, HeadTerms, HeadTerms.FirstTerm, HeadTerms.NextTerm, Heading, Heading.Plainly, Heading.Applied}
 use Rattle.rule_grammar.specs.Trees.{Adding, Adding.Added, Adding.Taken, Scaling, Scaling.Times, Scaling.Over, Scaling.Modulo, Joint, Joint.Joined, Joint.Otherwise}
@@ -56,7 +56,7 @@ term_form-Comp s o name args = term_at s o (pat.Comp name args) (pat.outs-Comp n
 -- ---- names
 
 -- a variable's name is among the names
-abbrev HasName : List (List ℕ) → Lexeme → Type 0
+abbrev HasName : List (List ℕ) → Terminal → Type 0
 HasName names (t.Var name) = list_any (bytes_eq name) names ≡ true
 HasName names x = Unit {0}
 
@@ -73,7 +73,7 @@ found (n ∷ names) name h = at (bytes_eq name n) refl h (found names name)
     at true e q more = sym ((bytes_eq-Decides name n).0 e)
     at false e q more = rw add-one (more q)
 
-grown : (names : List (List ℕ)) (x : Lexeme) (name : List ℕ) → list_any (bytes_eq name) names ≡ true → list_any (bytes_eq name) (with_token names x) ≡ true
+grown : (names : List (List ℕ)) (x : Terminal) (name : List ℕ) → list_any (bytes_eq name) names ≡ true → list_any (bytes_eq name) (with_token names x) ≡ true
 grown names (t.Var v) name h = at (list_any (bytes_eq v) names)
   where
     at : (b : Bool) → list_any (bytes_eq name) (cond b names (names ++ v ∷ [])) ≡ true
@@ -81,7 +81,7 @@ grown names (t.Var v) name h = at (list_any (bytes_eq v) names)
     at false = list_any-append (bytes_eq name) names (v ∷ []) ∙ ap (λ b. b || list_any (bytes_eq name) (v ∷ [])) h
 grown names x name h = h
 
-its_own : (names : List (List ℕ)) (x : Lexeme) → HasName (with_token names x) x
+its_own : (names : List (List ℕ)) (x : Terminal) → HasName (with_token names x) x
 its_own names (t.Var v) = at (list_any (bytes_eq v) names) refl
   where
     at : (b : Bool) → list_any (bytes_eq v) names ≡ b → list_any (bytes_eq v) (cond b names (names ++ v ∷ [])) ≡ true
@@ -89,7 +89,7 @@ its_own names (t.Var v) = at (list_any (bytes_eq v) names) refl
     at false e = list_any-append (bytes_eq v) names (v ∷ []) ∙ ap (λ b. b || list_any (bytes_eq v) (v ∷ [])) e ∙ ap (λ b. b || false) ((bytes_eq-Decides v v).1 refl)
 its_own names x = tt
 
-names_count : (g : Counted) (r : Role) (x : Lexeme) → Inner r → (count g (r, x)).names ≡ with_token g.names x
+names_count : (g : Counted) (r : Role) (x : Terminal) → Inner r → (count g (r, x)).names ≡ with_token g.names x
 names_count g (Starts n) x i = absurd i
 names_count g Single x i = refl
 names_count g Binary x i = refl
@@ -99,7 +99,7 @@ kept : (ms : List Marked) → IsInner ms → (g : Counted) (name : List ℕ) →
 kept [] i g name h = h
 kept (m ∷ ms) i g name h = kept ms i.1 (count g m) name (subst (λ ns. list_any (bytes_eq name) ns ≡ true) (sym (names_count g m.0 m.1 i.0)) (grown g.names m.1 name h))
 
-has_kept : (ms : List Marked) → IsInner ms → (g : Counted) (x : Lexeme) → HasName g.names x → HasName (count_all g ms).names x
+has_kept : (ms : List Marked) → IsInner ms → (g : Counted) (x : Terminal) → HasName g.names x → HasName (count_all g ms).names x
 has_kept ms i g (t.Var v) h = kept ms i g v h
 has_kept ms i g x h = tt
 
@@ -125,11 +125,11 @@ behind_literal names r (Symbol name) rest h = h.1
 behind_literal names r (Quoted text) rest h = h.1
 
 -- where a kind of terms may stand: its leaves come back
-record Place {W : Type 0} (names : List (List ℕ)) (spell : W → Lexeme) (leaf : W → Pat) (s : ℕ → Term W) (o : Term W) : Type 0 where
+record Place {W : Type 0} (names : List (List ℕ)) (spell : W → Terminal) (leaf : W → Pat) (s : ℕ → Term W) (o : Term W) : Type 0 where
   at : (w : W) → HasName names (spell w) → term_form s o (leaf w) ≡ Leaf w
 
 mutual
-  term_formed : {W : Type 0} (names : List (List ℕ)) (spell : W → Lexeme) (leaf : W → Pat) (s : ℕ → Term W) (o : Term W) → Place names spell leaf s o
+  term_formed : {W : Type 0} (names : List (List ℕ)) (spell : W → Terminal) (leaf : W → Pat) (s : ℕ → Term W) (o : Term W) → Place names spell leaf s o
       → (a : Term W) (r : Role) (d : ℕ) (rest : List Marked) → Named names (term spell r d a rest) → (term_form s o (term_value leaf a) ≡ normal_term a) × Named names rest
   term_formed names spell leaf s o p (Leaf w) r d rest h = (p.at w h.0, h.1)
   term_formed names spell leaf s o p (Lone l) r d rest h = (literal_formed s o l, behind_literal names r l rest h)
@@ -137,7 +137,7 @@ mutual
       let x = arguments_formed names spell leaf s o p as' (d + 1) (quiet t.Close rest) h.1.1 in
       (term_form-Comp s o name (arguments_value leaf as') ∙ ap (compound_form name) x.0, x.1.1)
 
-  arguments_formed : {W : Type 0} (names : List (List ℕ)) (spell : W → Lexeme) (leaf : W → Pat) (s : ℕ → Term W) (o : Term W) → Place names spell leaf s o
+  arguments_formed : {W : Type 0} (names : List (List ℕ)) (spell : W → Terminal) (leaf : W → Pat) (s : ℕ → Term W) (o : Term W) → Place names spell leaf s o
       → (as' : Arguments W) (d : ℕ) (rest : List Marked) → Named names (arguments spell d as' rest)
       → (arguments_form (map (term_form s o) (arguments_value leaf as')) ≡ Some (normal_arguments as')) × Named names rest
   arguments_formed names spell leaf s o p (First a) d rest h = let x = term_formed names spell leaf s o p a Quiet d rest h in (ap (λ y. Some (First y)) x.0, x.1)

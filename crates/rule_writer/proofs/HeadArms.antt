@@ -7,7 +7,7 @@ use Rattle.ev_term.specs.declared.terms.Pat.{Pat, out-Pat, roll-Pat, roll-out-Pa
 use Rattle.ev_term.specs.declared.terms.Pat.TheOpen.{Pat-F}
 use Rattle.ev_term.specs.declared.terms.Pat.TheOpen.Pat-F.{Var, Any, Num, Sym, Text, Comp}
 use Rattle.ev_term.specs.declared.terms.Pat.TheVariants as pat
-use Rattle.rule_tokens.specs.declared.lexemes.Lexeme.TheVariants as t
+use Rattle.rule_lexer.specs.declared.terminals.Terminal.TheVariants as t
 use Rattle.rule_grammar.specs.Trees.{HeadTerm, HeadTerms, HeadTerms.FirstTerm, HeadTerms.NextTerm}
 use Rattle.rule_grammar.specs.Marks.{Role.Starts, Role.Counts}
 use Rattle.rule_grammar.specs.Tokens.{quiet, head_term, count_of_terms, head_terms, heading}

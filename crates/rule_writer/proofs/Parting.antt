@@ -7,9 +7,9 @@ use Rattle.std.proofs.lemmas.Fmt.{decimal_by_steps}
 use Rattle.rule_ast.specs.declared.conditions.Cmp.{Cmp}
 use Rattle.rule_ast.specs.declared.conditions.Cmp.TheVariants as cmp
 use Rattle.rule_lexer.specs.Sorts.{is_word, begins}
-use Rattle.rule_tokens.specs.declared.lexemes.Lexeme.{Lexeme}
-use Rattle.rule_tokens.specs.declared.lexemes.Lexeme.TheVariants as t
-use Rattle.rule_tokens.specs.Writing.{is_proper, is_equal_sign, may_precede, Parted}
+use Rattle.rule_lexer.specs.declared.terminals.Terminal.{Terminal}
+use Rattle.rule_lexer.specs.declared.terminals.Terminal.TheVariants as t
+use Rattle.rule_lexer.specs.Writing.{is_proper, is_equal_sign, may_precede, Parted}
 use Rattle.rule_grammar.specs.Trees.{Literal, Literal.Digits, Literal.Minus, Literal.Least, Literal.Symbol, Literal.Quoted, Term, Term.Leaf, Term.Lone, Term.Compound, Arguments, Arguments.First, Arguments.Next}
 use Rattle.rule_grammar.specs.Trees.{Wanted, Wanted.Variable, Wanted.Anything, HeadTerm, HeadTerm.Leading, HeadTerm.Fixed, HeadTerms, HeadTerms.FirstTerm, HeadTerms.NextTerm, Heading, Heading.Plainly, Heading.Applied}
 use Rattle.rule_grammar.specs.Trees.{Adding, Adding.Added, Adding.Taken, Scaling, Scaling.Times, Scaling.Over, Scaling.Modulo, Joint, Joint.Joined, Joint.Otherwise}
@@ -19,7 +19,7 @@ use Rattle.rule_grammar.specs.Trees.{Items, Items.OneItem, Items.MoreItem, State
 use Rattle.rule_grammar.specs.Marks.{Role, Marked}
 use Rattle.rule_grammar.specs.Marks.{Role.Quiet, Role.Starts, Role.Single, Role.Nests, Role.Deepens, Role.Counts, Role.Lists, Role.Lasts, Role.HasArity}
 use Rattle.rule_grammar.specs.Tokens.{quiet, binary, a_part, literal, count_of, term, arguments, wanted, never, head_term, count_of_terms, head_terms, heading, adding, scaling, joint, condition, all, negation, comparison, sum, product, unit, tree, chain, part, round, items, statement, number_of, statements, text}
-use Rattle.rule_tokens.proofs.Stands.{begins-append}
+use Rattle.rule_lexer.proofs.Stands.{begins-append}
 use Rattle.rule_writer.specs.Canonical.{alone, by_token, piece_of, bytes_of}
 use Rattle.rule_writer.proofs.Fewer.{IsProper}
 
@@ -33,7 +33,7 @@ Stops ms = begins is_word (bytes_of ms) ≡ false
 
 -- a token of the role has no blank for its role
 record NoBlank (r : Role) : Type 0 where
-  piece : (x : Lexeme) → piece_of (r, x) ≡ by_token x
+  piece : (x : Terminal) → piece_of (r, x) ≡ by_token x
 
 in_quiet : NoBlank Quiet
 in_quiet = record { piece = λ x. refl }
@@ -41,7 +41,7 @@ in_quiet = record { piece = λ x. refl }
 in_single : NoBlank Single
 in_single = record { piece = λ x. refl }
 
-lone : (r : Role) (x : Lexeme) (ms : List Marked) → piece_of (r, x) ≡ alone x → (IsProper ((r, x) ∷ ms) → may_precede x (bytes_of ms) ≡ true) → Fine ms → Fine ((r, x) ∷ ms)
+lone : (r : Role) (x : Terminal) (ms : List Marked) → piece_of (r, x) ≡ alone x → (IsProper ((r, x) ∷ ms) → may_precede x (bytes_of ms) ≡ true) → Fine ms → Fine ((r, x) ∷ ms)
 lone r x ms e p f h =
     let a = and_parts (is_proper x) _ h in
     subst (λ q. Parted (q ∷ map piece_of ms) ≡ true) (sym e) (rw (a.0, p h, f a.1) refl)
@@ -73,17 +73,17 @@ fine_literal r a (Symbol name) ms s f = a_name r a name ms s f
 fine_literal r a (Quoted bytes) ms s f = a_text r a bytes ms f
 
 -- what stands for a term
-record Leaves {W : Type 0} (spell : W → Lexeme) : Type 0 where
+record Leaves {W : Type 0} (spell : W → Terminal) : Type 0 where
   leaf : (w : W) (r : Role) → NoBlank r → (ms : List Marked) → Stops ms → Fine ms → Fine ((r, spell w) ∷ ms)
 
 mutual
-  fine_term : {W : Type 0} (spell : W → Lexeme) → Leaves spell → (r : Role) → NoBlank r → (d : ℕ) (x : Term W) (ms : List Marked) → Stops ms → Fine ms → Fine (term spell r d x ms)
+  fine_term : {W : Type 0} (spell : W → Terminal) → Leaves spell → (r : Role) → NoBlank r → (d : ℕ) (x : Term W) (ms : List Marked) → Stops ms → Fine ms → Fine (term spell r d x ms)
   fine_term spell w r a d (Leaf x) ms s f = w.leaf x r a ms s f
   fine_term spell w r a d (Lone l) ms s f = fine_literal r a l ms s f
   fine_term spell w r a d (Compound name as') ms s f =
       a_name r a name ((Deepens (d + 1), t.Open) ∷ arguments spell (d + 1) as' (quiet t.Close ms)) refl (fine_arguments spell w (d + 1) as' (quiet t.Close ms) refl f)
 
-  fine_arguments : {W : Type 0} (spell : W → Lexeme) → Leaves spell → (d : ℕ) (as' : Arguments W) (ms : List Marked) → Stops ms → Fine ms → Fine (arguments spell d as' ms)
+  fine_arguments : {W : Type 0} (spell : W → Terminal) → Leaves spell → (d : ℕ) (as' : Arguments W) (ms : List Marked) → Stops ms → Fine ms → Fine (arguments spell d as' ms)
   fine_arguments spell w d (First a) ms s f = fine_term spell w Quiet in_quiet d a ms s f
   fine_arguments spell w d (Next as' a) ms s f =
       fine_arguments spell w d as' ((Counts (count_of as' + 1), t.Comma) ∷ term spell Quiet d a ms) refl (fine_term spell w Quiet in_quiet d a ms s f)

@@ -1,8 +1,8 @@
 -- The canonical tree of what a text says says the same, and keeps the limits that the text keeps.
 use Rattle.std.proofs.Common.{◌≡◌, Bool, true, [], ◌∷◌, ◌++◌, refl, sym, ap, ap₂, ◌∙◌, subst}
 use Rattle.rule_ast.specs.Trees as plain
-use Rattle.rule_tokens.specs.declared.lexemes.Lexeme.{Lexeme}
-use Rattle.rule_tokens.specs.declared.lexemes.Lexeme.TheVariants.{Huge}
+use Rattle.rule_lexer.specs.declared.terminals.Terminal.{Terminal}
+use Rattle.rule_lexer.specs.declared.terminals.Terminal.TheVariants.{Huge}
 use Rattle.rule_grammar.specs.Trees.{Statement, Statement.Clause, Statement.Shown, Statements, Statements.Empty, Statements.Then}
 use Rattle.rule_grammar.specs.Marks.{nothing_counted}
 use Rattle.rule_grammar.specs.Tokens.{text}
@@ -34,5 +34,5 @@ says_again ss = ap text_value (text_formed ss) ∙ text_says ss
 pub within_again : (ss : Statements) → IsWithin nothing_counted (text ss) → IsWithin nothing_counted (text (text_form (text_value ss)))
 within_again ss h = subst (λ x. IsWithin nothing_counted (text x)) (sym (text_formed ss)) (within (fewer_text ss) nothing_counted h)
 
-pub kept_again : (p : Lexeme → Bool) → p Huge ≡ true → (ss : Statements) → AllTokens p (text ss) → AllTokens p (text (text_form (text_value ss)))
+pub kept_again : (p : Terminal → Bool) → p Huge ≡ true → (ss : Statements) → AllTokens p (text ss) → AllTokens p (text (text_form (text_value ss)))
 kept_again p u ss h = subst (λ x. AllTokens p (text x)) (sym (text_formed ss)) (kept p u (fewer_text ss) h)

@@ -8,7 +8,7 @@ use Rattle.rule_ast.specs.declared.statements.Statement.{Statement}
 use Rattle.rule_ast.specs.Plain.{plain_statement}
 use Rattle.rule_ast.specs.Trees as plain
 use Rattle.rule_ast.specs.Trees.{PlainRule, PlainStatement}
-use Rattle.rule_tokens.specs.declared.lexemes.Lexeme.TheVariants as t
+use Rattle.rule_lexer.specs.declared.terminals.Terminal.TheVariants as t
 use Rattle.rule_grammar.specs.Trees.{Items, Items.OneItem, Items.MoreItem, Statements.Empty}
 use Rattle.rule_grammar.specs.Marks.{Role.Starts, Role.Lists}
 use Rattle.rule_grammar.specs.Tokens.{quiet, heading, items, statement, number_of, statements}

@@ -1,5 +1,5 @@
 -- The canonical tree of what a rule file says: brackets stand only where a tighter level is wanted.
-use Rattle.std.specs.Prelude.{ℕ, ℤ, pos, negsuc, ◌+◌, ◌^◌, ◌==◌, cond, List, [], map, get_or, Option, Some, None}
+use Rattle.std.specs.Prelude.{ℕ, ℤ, pos, negsuc, ◌+◌, ◌==◌, cond, List, [], map, get_or, Option, Some, None}
 use Rattle.std.specs.List.{fold}
 use Rattle.ev_term.specs.declared.terms.Pat.{Pat, out-Pat}
 use Rattle.ev_term.specs.declared.terms.Pat.TheOpen.{Pat-F}
@@ -8,6 +8,7 @@ use Rattle.ev_term.specs.declared.terms.Pat.TheFolds.{fold-Pat}
 use Rattle.ev_term.specs.declared.atoms.PatAtom.{PatAtom}
 use Rattle.ev_term.specs.declared.atoms.NameArity.{NameArity}
 use Rattle.rule_ast.specs.declared.conditions.Calc.{Calc}
+use Rattle.rule_lexer.specs.declared.tokens.TheConstants.{NUMBER_LIMIT}
 use Rattle.rule_ast.specs.declared.conditions.Calc.TheVariants.{Add, Sub, Mul, Div, Rem}
 use Rattle.rule_ast.specs.declared.conditions.Cmp.{Cmp}
 use Rattle.rule_ast.specs.Trees as plain
@@ -21,10 +22,10 @@ use Rattle.rule_grammar.specs.Trees.{Items, Items.OneItem, Items.MoreItem, State
 
 -- ---- terms
 
--- a number: `-` stands before those below 0, and -2^63 has a word of its own
+-- a number: `-` stands before those below 0, and the least has a word of its own
 abbrev pub number_form : ℤ → Literal
 number_form (pos n) = Digits n
-number_form (negsuc n) = cond (n + 1 == 2 ^ 63) Least (Minus (n + 1))
+number_form (negsuc n) = cond (n + 1 == NUMBER_LIMIT) Least (Minus (n + 1))
 
 -- one more argument behind those so far, if there are any
 abbrev pub and_argument : {W : Type 0} → Option (Arguments W) → Term W → Option (Arguments W)

@@ -1,13 +1,14 @@
 -- What writing tokens appends to a text.
 use Rattle.std.specs.Prelude.{ℕ, ◌≡◌, Bool, true, false, None, List, [], ◌∷◌, ◌++◌, map}
 use Rattle.std.specs.List.{fold}
+use Rattle.ev_term.specs.Bytes.{space}
 use Rattle.ev_term.specs.declared.terms.Pat.{Pat}
-use Rattle.rule_tokens.specs.declared.lexemes.Lexeme.{Lexeme}
+use Rattle.rule_lexer.specs.declared.terminals.Terminal.{Terminal}
 use Rattle.ev_term.specs.declared.atoms.NameArity.{NameArity}
 use Rattle.rule_ast.specs.declared.conditions.Calc.{Calc}
 use Rattle.rule_ast.specs.declared.conditions.Calc.TheVariants.{Add, Sub, Mul, Div, Rem}
-use Rattle.rule_tokens.specs.declared.lexemes.Lexeme.TheVariants.{Var, Name, Number, Slash, Plus, Minus, Star, Percent}
-use Rattle.rule_tokens.specs.Writing.{spelling}
+use Rattle.rule_lexer.specs.declared.terminals.Terminal.TheVariants.{Var, Name, Number, Slash, Plus, Minus, Star, Percent}
+use Rattle.rule_lexer.specs.Writing.{spelling}
 use Rattle.rule_grammar.specs.Trees.{Term, Term.Leaf, Arguments, Arguments.First, Arguments.Next, Wanted, Wanted.Variable, Wanted.Anything, HeadTerm, HeadTerms, HeadTerms.FirstTerm, HeadTerms.NextTerm}
 use Rattle.rule_grammar.specs.Marks.{Marked, Role.Quiet, Role.HasArity}
 use Rattle.rule_grammar.specs.Tokens.{quiet, term, arguments, wanted, never, head_terms, items}
@@ -30,7 +31,7 @@ LeafOf Argument = Wanted
 LeafOf Operand = List ℕ
 LeafOf Ground = ⊥
 
-abbrev pub spell_at : (place : Place) → LeafOf place → Lexeme
+abbrev pub spell_at : (place : Place) → LeafOf place → Terminal
 spell_at Argument = wanted
 spell_at Operand = λ name. Var name
 spell_at Ground = never
@@ -72,7 +73,8 @@ more_head_terms first others = fold NextTerm (FirstTerm first) others
 
 abbrev pub all_head_terms : List (List ℕ) → List Pat → List Marked → List Marked
 all_head_terms names [] rest = rest
-all_head_terms names (first ∷ others) rest = head_terms (more_head_terms (head_term_form names first) (map (head_term_form names) others)) rest
+all_head_terms names (first ∷ others) rest =
+    head_terms (more_head_terms (head_term_form names first) (map (head_term_form names) others)) rest
 
 -- bytes, where they are wanted
 abbrev pub when : Bool → List ℕ → List ℕ
@@ -80,8 +82,8 @@ when true bytes = bytes
 when false bytes = []
 
 -- a token with a blank on each side
-abbrev pub between : Lexeme → List ℕ
-between x = 32 ∷ (spelling x ++ 32 ∷ [])
+abbrev pub between : Terminal → List ℕ
+between x = space ∷ (spelling x ++ space ∷ [])
 
 -- how tightly a condition binds at each level, and a pattern
 abbrev pub condition_rank : ConditionLevel → ℕ
@@ -106,7 +108,7 @@ calc_rank Mul = 5
 calc_rank Div = 5
 calc_rank Rem = 5
 
-abbrev pub calc_token : Calc → Lexeme
+abbrev pub calc_token : Calc → Terminal
 calc_token Add = Plus
 calc_token Sub = Minus
 calc_token Mul = Star

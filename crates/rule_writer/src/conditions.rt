@@ -1,7 +1,7 @@
 // Conditions.
 ghost use Rattle.std.specs.Prelude.{◌≡◌, ◌+◌, ◌∷◌, [], ◌++◌, ℕ, List, OnOk};
 ghost use Rattle.rule_ast.specs.Plain.{plain_cond};
-ghost use Rattle.rule_tokens.specs.declared.lexemes.Lexeme.TheVariants.{Compare};
+ghost use Rattle.rule_lexer.specs.declared.terminals.Terminal.TheVariants.{Compare};
 ghost use Rattle.rule_grammar.specs.Tokens.{condition};
 ghost use Rattle.rule_writer.specs.Forms.{condition_form, as_condition};
 ghost use Rattle.rule_writer.specs.Spelled.{condition_level, condition_spelled};
@@ -106,7 +106,9 @@ pub(crate) fn write_condition(
     cond: &Cond,
     level: ConditionLevel,
 ) -> Result<(), AllocError>
-    ensures { OnOk result ((d : ℕ) → Appends out.old.items out.new.items (condition_spelled (condition_rank level) d (condition_form names.now (plain_cond cond.now)))) }
+    ensures { OnOk result ((d : ℕ)
+        → Appends out.old.items out.new.items
+        (condition_spelled (condition_rank level) d (condition_form names.now (plain_cond cond.now)))) }
 {
     let bracketed = level_of(cond).rank() < level.rank();
     write_if(out, bracketed, "(")?;
@@ -118,7 +120,8 @@ pub(crate) fn write_condition(
 // A condition without a bracket round it.
 #[cycle(condition)]
 fn write_bare(out: &mut Vec<u8>, names: &[Name], cond: &Cond) -> Result<(), AllocError>
-    ensures { OnOk result ((d : ℕ) → Appends out.old.items out.new.items (condition d (as_condition (condition_form names.now (plain_cond cond.now))))) }
+    ensures { OnOk result ((d : ℕ)
+        → Appends out.old.items out.new.items (condition d (as_condition (condition_form names.now (plain_cond cond.now))))) }
 {
     match cond {
         Cond::Value(pat) => write_term(out, names, Place::Operand, pat)?,

@@ -1,7 +1,7 @@
 // Patterns.
 ghost use Rattle.std.specs.Prelude.{◌≡◌, ◌+◌, ◌∷◌, [], ◌++◌, ℕ, List, OnOk};
 ghost use Rattle.rule_ast.specs.Plain.{plain_pattern};
-ghost use Rattle.rule_tokens.specs.declared.lexemes.Lexeme.TheVariants as lexemes;
+ghost use Rattle.rule_lexer.specs.declared.terminals.Terminal.TheVariants as terminals;
 ghost use Rattle.rule_grammar.specs.Tokens.{tree};
 ghost use Rattle.rule_writer.specs.Forms.{pattern_form, as_tree};
 ghost use Rattle.rule_writer.specs.Spelled.{pattern_level, pattern_spelled};
@@ -51,7 +51,7 @@ fn level_of(pattern: &Pattern) -> PatternLevel
 }
 
 fn op_word(op: Op) -> &'static str
-    ensures { result.now ≡ between (lexemes.Op op) }
+    ensures { result.now ≡ between (terminals.Op op) }
 {
     match op {
         Op::Seq => " SEQ ",
@@ -73,7 +73,9 @@ pub(crate) fn write_pattern(
     pattern: &Pattern,
     level: PatternLevel,
 ) -> Result<(), AllocError>
-    ensures { OnOk result ((d : ℕ) → Appends out.old.items out.new.items (pattern_spelled (pattern_rank level) d (pattern_form names.now (plain_pattern pattern.now)))) }
+    ensures { OnOk result ((d : ℕ)
+        → Appends out.old.items out.new.items
+        (pattern_spelled (pattern_rank level) d (pattern_form names.now (plain_pattern pattern.now)))) }
 {
     let bracketed = level_of(pattern).rank() < level.rank();
     write_if(out, bracketed, "(")?;
@@ -85,7 +87,8 @@ pub(crate) fn write_pattern(
 // A pattern without a bracket round it.
 #[cycle(pattern)]
 fn write_bare(out: &mut Vec<u8>, names: &[Name], pattern: &Pattern) -> Result<(), AllocError>
-    ensures { OnOk result ((d : ℕ) → Appends out.old.items out.new.items (tree d (as_tree (pattern_form names.now (plain_pattern pattern.now))))) }
+    ensures { OnOk result ((d : ℕ)
+        → Appends out.old.items out.new.items (tree d (as_tree (pattern_form names.now (plain_pattern pattern.now))))) }
 {
     match pattern {
         Pattern::Atom(atom) => {

@@ -40,7 +40,8 @@ fn write_items(out: &mut Vec<u8>, names: &[NameArity]) -> Result<(), AllocError>
 }
 
 fn write_rule(out: &mut Vec<u8>, rule: &Rule) -> Result<(), AllocError>
-    ensures { OnOk result ((n : ℕ) → Appends out.old.items out.new.items (statement_tokens n (statement_form (Clause (plain_rule rule.now))))) }
+    ensures { OnOk result ((n : ℕ)
+        → Appends out.old.items out.new.items (statement_tokens n (statement_form (Clause (plain_rule rule.now))))) }
 {
     let names = rule.vars.as_slice();
     write_head(out, names, &rule.head)?;
@@ -51,7 +52,8 @@ fn write_rule(out: &mut Vec<u8>, rule: &Rule) -> Result<(), AllocError>
 }
 
 fn write_statement(out: &mut Vec<u8>, statement: &Statement) -> Result<(), AllocError>
-    ensures { OnOk result ((n : ℕ) → Appends out.old.items out.new.items (statement_tokens n (statement_form (plain_statement statement.now)))) }
+    ensures { OnOk result ((n : ℕ)
+        → Appends out.old.items out.new.items (statement_tokens n (statement_form (plain_statement statement.now)))) }
 {
     match statement {
         Statement::Rule(rule) => write_rule(out, rule)?,

@@ -78,7 +78,8 @@ pub(crate) fn write_compound(
     name: &Name,
     args: &[Pat],
 ) -> Result<(), AllocError>
-    ensures { OnOk result ((d : ℕ) → Appends out.old.items out.new.items (term_tokens place d (compound_at place names.now name.now args.now))) }
+    ensures { OnOk result ((d : ℕ)
+        → Appends out.old.items out.new.items (term_tokens place d (compound_at place names.now name.now args.now))) }
 {
     write_str(out, name.as_str())?;
     if args.is_empty() {

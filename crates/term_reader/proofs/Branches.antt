@@ -4,6 +4,7 @@ use Rattle.std.proofs.lemmas.Bool.{lt-ltb, le-ltb, le-leb, true≢false}
 use Rattle.std.proofs.lemmas.List.{drop_more}
 use Rattle.ev_term.specs.declared.terms.Term.{Term}
 use Rattle.ev_term.specs.declared.terms.Term.TheVariants as made
+use Rattle.ev_term.specs.declared.terms.TheConstants.{MOST_ARGUMENTS, MOST_DEPTH}
 use Rattle.term_reader.specs.declared.faults.TermFault.{TermFault}
 use Rattle.term_reader.specs.declared.signs.Sign.{Sign}
 use Rattle.term_reader.specs.declared.signs.Sign.TheVariants.{Space, Tab, Digit, Lower, Upper, Open, Close, Comma, Quote, Minus}
@@ -126,9 +127,6 @@ number_step m d s k h e = e ∙ ap (λ c. guard c (InNumber m (OneDigit d) k)) (
 pub first_run : (bytes : List ℕ) (at d : ℕ) (k : Stack) → SignAt bytes at (Digit d) → run (drop at bytes) (Want k) ≡ run (drop (at + 1) bytes) (InNumber false (OneDigit d) k)
 first_run bytes at d k h = run_step bytes at (Digit d) (Want k) (InNumber false (OneDigit d) k) h (number_step false d (Want k) k h.digit refl)
 
-pub negative_run : (bytes : List ℕ) (at d : ℕ) (k : Stack) → SignAt bytes at (Digit d) → run (drop at bytes) (Negative k) ≡ run (drop (at + 1) bytes) (InNumber true (OneDigit d) k)
-negative_run bytes at d k h = run_step bytes at (Digit d) (Negative k) (InNumber true (OneDigit d) k) h (number_step true d (Negative k) k h.digit refl)
-
 pub number_tree : (bytes : List ℕ) (at depth d end : ℕ) (v : Term) → SignAt bytes at (Digit d) → NumberRead bytes (at + 1) false d v end → TreeRead bytes at depth v end
 number_tree bytes at depth d end v h g = record {
   tree = Number false g.digits;
@@ -145,15 +143,6 @@ negative_tree bytes at depth end v h g = record {
   ordered = omega (arith, g.ordered);
   inside = g.inside;
   reads = λ k q. run_step bytes at Minus (Want k) (Negative k) h refl ∙ g.reads k;
-}
-
-pub negative_read : (bytes : List ℕ) (at d end : ℕ) (v : Term) → SignAt bytes at (Digit d) → NumberRead bytes (at + 1) true d v end → NegativeRead bytes at v end
-negative_read bytes at d end v h g = record {
-  digits = g.digits;
-  says = g.says;
-  ordered = omega (arith, g.ordered);
-  inside = g.inside;
-  reads = λ k. negative_run bytes at d k h ∙ g.reads k;
 }
 
 -- Arguments.
@@ -215,11 +204,11 @@ open_at bytes at e =
     some (x ∷ xs) zero e = omega arith
     some (x ∷ xs) (suc i) e = let h = some xs i e in omega (arith, h)
 
-room : (n : ℕ) → n < 16 → has_room true n ≡ true
-room n h = lt-ltb _ _ h
+room : (most n : ℕ) → n < most → has_room true most n ≡ true
+room most n h = lt-ltb _ _ h
 
-no_room : (n : ℕ) → 16 ≤ n → has_room true n ≡ false
-no_room n h = le-ltb _ _ h
+no_room : (most n : ℕ) → most ≤ n → has_room true most n ≡ false
+no_room most n h = le-ltb _ _ h
 
 pub args_start : (bytes : List ℕ) (at depth : ℕ) → SignAt bytes at Open → depth < 16 → ArgsSoFar bytes at depth [] (at + 1)
 args_start bytes at depth h d = record {
@@ -229,12 +218,8 @@ args_start bytes at depth h d = record {
   narrow = omega arith;
   inside = omega (arith, h.inside);
   ordered = omega arith;
-  reads = λ w k q. run_step bytes at Open (InWord w k) (Want (First w NoBlank k)) h (ap (λ c. guard c (Want (First w NoBlank k))) (room (opened k) (omega (arith, q, d))));
+  reads = λ w k q. run_step bytes at Open (InWord w k) (Want (First w NoBlank k)) h (ap (λ c. guard c (Want (First w NoBlank k))) (room MOST_DEPTH (opened k) (omega (arith, q, d))));
 }
-
-pub too_deep : (bytes : List ℕ) (at depth : ℕ) → SignAt bytes at Open → 16 ≤ depth → (w : Word) (k : Stack) → opened k ≡ depth → (at ≤ length bytes) × (run (drop at bytes) (InWord w k) ≡ Stops Deep (drop at bytes))
-too_deep bytes at depth h d w k q =
-    (omega (arith, h.inside), run_limit bytes at Open (InWord w k) (Want (First w NoBlank k)) h (ap (λ c. guard c (Want (First w NoBlank k))) (no_room (opened k) (omega (arith, q, d)))) refl)
 
 pub values-append : (xs : Args) (rest : List Term) → values xs rest ≡ values xs [] ++ rest
 values-append (OneArg b t c) rest = refl
@@ -252,7 +237,7 @@ step_close : (w : Word) (o : Option Args) (k : Stack) (b : Blanks) (t : Tree) (c
 step_close w None k b t c = refl
 step_close w (Some xs) k b t c = refl
 
-step_comma : (lim : Bool) (w : Word) (o : Option Args) (k : Stack) (b : Blanks) (t : Tree) (c : Blanks) → has_room lim 1 ≡ true → step lim (Behind t (frame w o b k) c) Comma ≡ guard (has_room lim (width (with_arg o b t c))) (Want (Next w (with_arg o b t c) NoBlank k))
+step_comma : (lim : Bool) (w : Word) (o : Option Args) (k : Stack) (b : Blanks) (t : Tree) (c : Blanks) → has_room lim MOST_ARGUMENTS 1 ≡ true → step lim (Behind t (frame w o b k) c) Comma ≡ guard (has_room lim MOST_ARGUMENTS (width (with_arg o b t c))) (Want (Next w (with_arg o b t c) NoBlank k))
 step_comma lim w None k b t c h = ap (λ x. guard x (Want (Next w (OneArg b t c) NoBlank k))) (sym h)
 step_comma lim w (Some xs) k b t c h = refl
 
@@ -286,7 +271,7 @@ args_comma bytes at depth next end items v h g s n =
       inside = omega (arith, s.inside);
       reads = λ w k q. args_arg bytes at depth next end items v h g w k q
           ∙ run_step bytes end Comma (Behind g.tree (frame w h.some g.before k) g.after) (Want (Next w xs NoBlank k)) s
-          (step_comma true w h.some k g.before g.tree g.after refl ∙ ap (λ c. guard c (Want (Next w xs NoBlank k))) (room (width xs) (omega (arith, m, n))));
+          (step_comma true w h.some k g.before g.tree g.after refl ∙ ap (λ c. guard c (Want (Next w xs NoBlank k))) (room MOST_ARGUMENTS (width xs) (omega (arith, m, n))));
     }
 
 pub too_wide : (bytes : List ℕ) (at depth next end : ℕ) (items : List Term) (v : Term) → ArgsSoFar bytes at depth items next → ArgRead bytes next (depth + 1) v end → SignAt bytes end Comma → 16 ≤ length (items ++ v ∷ []) → (w : Word) (k : Stack) → opened k ≡ depth
@@ -297,7 +282,7 @@ too_wide bytes at depth next end items v h g s n w k q =
       g.inside,
       args_arg bytes at depth next end items v h g w k q
           ∙ run_limit bytes end Comma (Behind g.tree (frame w h.some g.before k) g.after) (Want (Next w xs NoBlank k)) s
-          (step_comma true w h.some k g.before g.tree g.after refl ∙ ap (λ c. guard c (Want (Next w xs NoBlank k))) (no_room (width xs) (omega (arith, m, n))))
+          (step_comma true w h.some k g.before g.tree g.after refl ∙ ap (λ c. guard c (Want (Next w xs NoBlank k))) (no_room MOST_ARGUMENTS (width xs) (omega (arith, m, n))))
           (step_comma false w h.some k g.before g.tree g.after refl),
     )
 
@@ -343,7 +328,3 @@ digit_tree bytes at depth d (Err fault) h g = λ k q. subst (Fails bytes fault) 
 pub minus_tree : (bytes : List ℕ) (at depth : ℕ) (r : Result (Term × ℕ) TermFault) → SignAt bytes at Minus → NegativeAt bytes (at + 1) r → TreeAt bytes at depth r
 minus_tree bytes at depth (Ok x) h g = negative_tree bytes at depth x.1 x.0 h g
 minus_tree bytes at depth (Err fault) h g = λ k q. subst (Fails bytes fault) (sym (run_step bytes at Minus (Want k) (Negative k) h refl)) (g k)
-
-pub digit_negative : (bytes : List ℕ) (at d : ℕ) (r : Result (Term × ℕ) TermFault) → SignAt bytes at (Digit d) → NumberAt bytes (at + 1) true d r → NegativeAt bytes at r
-digit_negative bytes at d (Ok x) h g = negative_read bytes at d x.1 x.0 h g
-digit_negative bytes at d (Err fault) h g = λ k. subst (Fails bytes fault) (sym (negative_run bytes at d k h)) (g k)

@@ -1,7 +1,7 @@
 -- A byte is told by its sign, and a list of bytes goes into its signs one by one.
 use Rattle.std.proofs.Common.{◌≡◌, ℕ, ◌+◌, ◌-◌, ◌<◌, ◌≤◌, Bool, true, false, ◌&&◌, cond, List, [], ◌∷◌, ◌++◌, length, take, refl, sym, ap, arith}
 use Rattle.std.specs.Prelude.{nat_lt, nat_le, ◌==◌}
-use Rattle.std.proofs.lemmas.Bool.{leb-true, leb-false, eqb-true}
+use Rattle.std.proofs.lemmas.Bool.{leb-true, leb-false, eqb-true, and_parts}
 use Rattle.term_reader.specs.declared.signs.Sign.{Sign}
 use Rattle.term_reader.specs.declared.signs.Sign.TheVariants.{Space, Tab, Digit, Lower, Upper, Open, Close, Comma, Quote, Backslash, Minus, Plus, Control, High, Other}
 use Rattle.term_reader.specs.Signs.{sign_of, byte_of, signs}
@@ -23,19 +23,15 @@ by_two : (P : Sign → Type 0) (c : Bool) (s u : Sign) → (c ≡ true → P s) 
 by_two P true s u h k = h refl
 by_two P false s u h k = k refl
 
-both : (a b : Bool) → (a && b) ≡ true → (a ≡ true) × (b ≡ true)
-both true b e = (refl, e)
-both false b e = cc
-
 digit_tells : (b : ℕ) → (nat_le 48 b && nat_le b 57) ≡ true → Tells b (Digit (b - 48))
 digit_tells b e =
-    let p = both _ _ e in
+    let p = and_parts _ _ e in
     let low : 48 ≤ b = leb-true _ _ p.0 in
     let high : b ≤ 57 = leb-true _ _ p.1 in
     (e, omega arith, omega arith)
 
 letter_small : (low high b : ℕ) → high < 128 → (nat_le low b && nat_le b high) ≡ true → b < 128
-letter_small low high b h e = let p = both (nat_le low b) (nat_le b high) e in let u : b ≤ high = leb-true b high p.1 in omega (arith, h, u)
+letter_small low high b h e = let p = and_parts (nat_le low b) (nat_le b high) e in let u : b ≤ high = leb-true b high p.1 in omega (arith, h, u)
 
 pub sign_tells : (b : ℕ) → Tells b (sign_of b)
 sign_tells b =

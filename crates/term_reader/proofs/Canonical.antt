@@ -1,7 +1,7 @@
 -- Reading the canonical text of a term or atom within the limits gives it back.
 use Rattle.std.proofs.Common.{◌≡◌, ℕ, ◌+◌, ◌<◌, ◌≤◌, Bool, true, false, List, [], ◌∷◌, ◌++◌, length, map, drop, Option, Some, None, option_and_then, suc, Result, Ok, Err, refl, sym, ap, ◌∙◌, arith, subst, append_assoc, append-nil, length-append, length-drop}
 use Rattle.std.specs.List.{join_with_byte}
-use Rattle.std.proofs.lemmas.Bool.{leb-true, lt-ltb}
+use Rattle.std.proofs.lemmas.Bool.{leb-true, lt-ltb, and_parts}
 use Rattle.ev_term.specs.declared.terms.Term.{Term, out-Term, roll-Term, out-roll-Term, roll-out-Term}
 use Rattle.ev_term.specs.declared.terms.Term.TheVariants as made
 use Rattle.ev_term.specs.declared.terms.Term.TheOpen.{Term-F}
@@ -21,7 +21,7 @@ use Rattle.term_reader.specs.Steps.{Outcome, Outcome.Reads, Outcome.Stops, run, 
 use Rattle.term_reader.specs.Readings.{begins, is_word, is_open, is_digit, Fails, TermGiven, AtomGiven}
 use Rattle.term_reader.specs.Limits.{within, within_step, within_at, is_within, is_atom_within, all_within, is_i64, is_name, is_text, goes_on, Free, TermBack, AtomBack}
 use Rattle.term_reader.proofs.Bytes.{signs-append}
-use Rattle.term_reader.proofs.Pieces.{both, name_for, signed_for, text_for}
+use Rattle.term_reader.proofs.Pieces.{name_for, signed_for, text_for}
 use Rattle.term_reader.proofs.Walks.{walk, tree_walks, behind_tree}
 use Rattle.term_reader.proofs.Branches.{behind_name, behind_number}
 use Rattle.term_reader.proofs.Wholes.{over_top}
@@ -83,7 +83,7 @@ args_for : (xs : List Term) (ys : Args) (n : ℕ) → Each HasTree xs → all_wi
 unfolding signs HasTree
 args_for [] ys n h w l f = record { made = ys; says = refl; fine = f; width = omega arith; written = λ rest. refl }
 args_for (x ∷ xs) ys n h w l f =
-    let p = both _ _ w in
+    let p = and_parts _ _ w in
     let t = h.0 n p.0 in
     let m : width ys < 16 = omega (arith, l) in
     let r = args_for xs (MoreArg ys NoBlank t.made NoBlank) n h.1 p.1 (omega (arith, l)) (f, lt-ltb _ _ m, t.fine) in
@@ -106,7 +106,7 @@ all_args : (xs : List Term) (n : ℕ) → Each HasTree xs → all_within (map wi
 unfolding signs HasTree
 all_args [] n h w k l = absurd (omega arith)
 all_args (x ∷ xs) n h w k l =
-    let p = both _ _ w in
+    let p = and_parts _ _ w in
     let t = h.0 n p.0 in
     let r = args_for xs (OneArg NoBlank t.made NoBlank) n h.1 p.1 (omega (arith, l)) t.fine in
     record {
@@ -168,10 +168,10 @@ layer_tree (Text s) h = λ n w.
     }
 layer_tree (Comp f xs) h = λ n w.
     let i : within_step (Comp f (map within xs)) n ≡ true = ap (λ g. g n) (sym (within_at (roll-Term (Comp f xs)) (out-roll-Term (Comp f xs)))) ∙ w in
-    let a = both _ _ i in
-    let b = both _ _ a.1 in
-    let c = both _ _ b.1 in
-    let d = both _ _ c.1 in
+    let a = and_parts _ _ i in
+    let b = and_parts _ _ a.1 in
+    let c = and_parts _ _ b.1 in
+    let d = and_parts _ _ c.1 in
     let r = name_for f a.0 in
     let s = all_args xs (n + 1) h d.1 (subst (λ k. 1 ≤ k) (length-map xs) (leb-true _ _ c.0)) (subst (λ k. k ≤ 16) (length-map xs) (leb-true _ _ d.0)) in
     record {
@@ -280,12 +280,12 @@ AtomFor a = (u : Tree) × (atom_value u ≡ a) × Fine true AnAtom u × (tree.tr
 atom_for : (name : List ℕ) (xs : List Term) → is_atom_within (record { name = name; args = xs }) ≡ true → AtomFor (record { name = name; args = xs })
 unfolding AtomFor
 atom_for name [] w =
-    let p = both _ _ w in
+    let p = and_parts _ _ w in
     let r = name_for name p.0 in
     (Name r.made, (λ i. record { name = r.says i; args = [] }), (tt, tt), r.written [] ∙ append-nil (signs name))
 atom_for name (x ∷ xs) w =
-    let p = both _ _ w in
-    let q = both _ _ p.1 in
+    let p = and_parts _ _ w in
+    let q = and_parts _ _ p.1 in
     let r = name_for name p.0 in
     let s = all_args (x ∷ xs) 1 (each_tree (x ∷ xs)) q.1 (omega arith) (leb-true _ _ q.0) in (
       tree.Tree.Comp r.made s.made,

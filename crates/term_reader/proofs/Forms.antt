@@ -16,26 +16,11 @@ use Rattle.term_reader.proofs.Utf8.{small_then}
 pub run_step : (bytes : List ℕ) (at : ℕ) (s : Sign) (from to : State) → SignAt bytes at s → step true from s ≡ Some to → run (drop at bytes) from ≡ run (drop (at + 1) bytes) to
 run_step bytes at s from to h e = ap (λ y. run y from) h.next ∙ ap (onward (run (drop (at + 1) bytes)) from h.byte (drop (at + 1) bytes)) (ap (step true from) h.is ∙ e)
 
-pub run_stuck : (bytes : List ℕ) (at : ℕ) (s : Sign) (from : State) → SignAt bytes at s → step true from s ≡ None → step false from s ≡ None → said from ≡ None → run (drop at bytes) from ≡ Stops Bad (drop at bytes)
-run_stuck bytes at s from h e f g =
-    ap (λ y. run y from) h.next ∙ ap (onward (run (drop (at + 1) bytes)) from h.byte (drop (at + 1) bytes)) (ap (step true from) h.is ∙ e)
-    ∙ ap (λ o. halted o from h.byte (drop (at + 1) bytes)) (ap (step false from) h.is ∙ f)
-    ∙ ap (λ o. ended o (h.byte ∷ drop (at + 1) bytes)) g ∙ ap (Stops Bad) (sym h.next)
-
 pub run_limit : (bytes : List ℕ) (at : ℕ) (s : Sign) (from to : State) → SignAt bytes at s → step true from s ≡ None → step false from s ≡ Some to → run (drop at bytes) from ≡ Stops (limit_at s) (drop at bytes)
 run_limit bytes at s from to h e f =
     ap (λ y. run y from) h.next ∙ ap (onward (run (drop (at + 1) bytes)) from h.byte (drop (at + 1) bytes)) (ap (step true from) h.is ∙ e)
     ∙ ap (λ o. halted o from h.byte (drop (at + 1) bytes)) (ap (step false from) h.is ∙ f)
     ∙ ap (λ x. Stops (limit_at x) (h.byte ∷ drop (at + 1) bytes)) h.is ∙ ap (Stops (limit_at s)) (sym h.next)
-
-pub run_end : (bytes : List ℕ) (at : ℕ) (from : State) → drop at bytes ≡ [] → said from ≡ None → run (drop at bytes) from ≡ Stops Bad (drop at bytes)
-run_end bytes at from h g = ap (λ y. run y from) h ∙ ap (λ o. ended o []) g ∙ ap (Stops Bad) (sym h)
-
-pub begins_at : (p : Sign → Bool) (bytes : List ℕ) (at : ℕ) (s : Sign) → SignAt bytes at s → begins p (drop at bytes) ≡ p s
-begins_at p bytes at s h = ap (begins p) h.next ∙ ap p h.is
-
-pub begins_end : (p : Sign → Bool) (bytes : List ℕ) (at : ℕ) → drop at bytes ≡ [] → begins p (drop at bytes) ≡ false
-begins_end p bytes at h = ap (begins p) h
 
 pub sign_as : (bytes : List ℕ) (at : ℕ) (s u : Sign) → SignAt bytes at s → s ≡ u → SignAt bytes at u
 sign_as bytes at s u h e = subst (SignAt bytes at) e h
@@ -58,9 +43,6 @@ blanks_more bytes at end s h a (inl e) = blanks_sign bytes at end Space MoreSpac
 blanks_more bytes at end s h a (inr e) = blanks_sign bytes at end Tab MoreTab (λ f p q b. q b) h (sign_as bytes end s Tab a e)
 
 -- words
-
-pub word_start : (bytes : List ℕ) (at : ℕ) → at ≤ length bytes → WordRead bytes at at
-word_start bytes at h = record { ordered = omega arith; inside = h; reads = λ w u. (w, u, λ k. refl, refl) }
 
 -- a letter of a word is its byte, which is below 128
 told_by : (bytes : List ℕ) (at : ℕ) (s : Sign) → (h : SignAt bytes at s) → Tells h.byte s
@@ -96,9 +78,6 @@ word_more bytes at end s h a (inr (inr p)) =
 
 -- numbers
 
-pub digits_start : (bytes : List ℕ) (m : Bool) (n at : ℕ) → at ≤ length bytes → fits m n ≡ true → DigitsRead bytes m n at n at
-digits_start bytes m n at h f = record { ordered = omega arith; inside = h; fits = f; reads = λ ds e. (ds, e, λ k. refl) }
-
 pub digits_more : (bytes : List ℕ) (m : Bool) (n at v end d : ℕ) (s : Sign) → DigitsRead bytes m n at v end → SignAt bytes end s → s ≡ Digit d → fits m (v * 10 + d) ≡ true → DigitsRead bytes m n at (v * 10 + d) (end + 1)
 digits_more bytes m n at v end d s h a e f = record {
   ordered = omega (arith, h.ordered);
@@ -112,17 +91,6 @@ digits_more bytes m n at v end d s h a e f = record {
         λ k. r.2 k ∙ run_step bytes end (Digit d) (InNumber m r.0 k) (InNumber m (MoreDigit r.0 d) k) (sign_as bytes end s (Digit d) a e) (ap (λ c. guard c (InNumber m (MoreDigit r.0 d) k)) g),
       );
 }
-
-pub digits_stop : (bytes : List ℕ) (m : Bool) (n at v end d : ℕ) (s : Sign) → DigitsRead bytes m n at v end → SignAt bytes end s → s ≡ Digit d → fits m (v * 10 + d) ≡ false
-    → (ds : Digits) → number ds ≡ n → (k : Stack) → (end ≤ length bytes) × (run (drop at bytes) (InNumber m ds k) ≡ Stops Range (drop end bytes))
-digits_stop bytes m n at v end d s h a e f ds q k =
-    let r = h.reads ds q in
-    let g : fits m (number r.0 * 10 + d) ≡ false = ap (λ x. fits m (x * 10 + d)) r.1 ∙ f in
-    (h.inside, r.2 k ∙ run_limit bytes end (Digit d) (InNumber m r.0 k) (InNumber m (MoreDigit r.0 d) k) (sign_as bytes end s (Digit d) a e) (ap (λ c. guard c (InNumber m (MoreDigit r.0 d) k)) g) refl)
-
-pub range_stop : (m : Bool) (v d : ℕ) → (most_of m - d) / 10 < v → fits m (v * 10 + d) ≡ false
-range_stop true v d h = lt-leb _ _ (omega arith)
-range_stop false v d h = le-ltb _ _ (omega arith)
 
 pub range_more : (m : Bool) (v d : ℕ) → d < 256 → v ≤ (most_of m - d) / 10 → fits m (v * 10 + d) ≡ true
 range_more true v d b h = le-leb _ _ (omega arith)

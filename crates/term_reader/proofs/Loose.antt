@@ -1,5 +1,6 @@
 -- What goes on within the limits goes on without them, in the same way.
 use Rattle.std.proofs.Common.{◌≡◌, ℕ, ◌+◌, Bool, true, false, Option, Some, None, refl}
+use Rattle.ev_term.specs.declared.terms.TheConstants.{MOST_ARGUMENTS, MOST_DEPTH}
 use Rattle.term_reader.specs.declared.signs.Sign.{Sign}
 use Rattle.term_reader.specs.declared.signs.Sign.TheVariants.{Space, Tab, Digit, Lower, Upper, Open, Close, Comma, Quote, Backslash, Minus, High}
 use Rattle.term_reader.specs.Signs.{is_plain, is_escape}
@@ -39,7 +40,7 @@ behind_loosens (First w b k) t c Close = refl
 behind_loosens (First w b k) t c x = tt
 behind_loosens (Next w xs b k) t c Space = refl
 behind_loosens (Next w xs b k) t c Tab = refl
-behind_loosens (Next w xs b k) t c Comma = guarded Comma (has_room true (width xs + 1)) _ tt
+behind_loosens (Next w xs b k) t c Comma = guarded Comma (has_room true MOST_ARGUMENTS (width xs + 1)) _ tt
 behind_loosens (Next w xs b k) t c Close = refl
 behind_loosens (Next w xs b k) t c x = tt
 
@@ -60,7 +61,7 @@ step_loosens (InNumber m ds k) s = behind_loosens k _ _ s
 step_loosens (InWord w k) (Lower x) = refl
 step_loosens (InWord w k) (Upper x) = refl
 step_loosens (InWord w k) (Digit x) = refl
-step_loosens (InWord w k) Open = guarded Open (has_room true (opened k)) _ tt
+step_loosens (InWord w k) Open = guarded Open (has_room true MOST_DEPTH (opened k)) _ tt
 step_loosens (InWord w k) s = behind_loosens k _ _ s
 step_loosens (InText l k) Quote = refl
 step_loosens (InText l k) Backslash = refl

@@ -5,7 +5,7 @@ use Rattle.std.specs.Str.Parse.{AllDigits, digits_value_after}
 use Rattle.std.specs.Char.{digit_value}
 use Rattle.std.specs.Fmt.{signed_decimal}
 use Rattle.std.proofs.lemmas.Fmt.{decimal_is_IsNumeral}
-use Rattle.std.proofs.lemmas.Bool.{le-leb, lt-leb, le-ltb, ltb-true, ltb-false, leb-true, eqb-true, ne_eqb, true≢false}
+use Rattle.std.proofs.lemmas.Bool.{le-leb, lt-leb, le-ltb, ltb-true, ltb-false, leb-true, eqb-true, ne_eqb, true≢false, and_parts}
 use Rattle.ev_term.specs.Text.{escape, quoted}
 use Rattle.term_reader.specs.declared.signs.Sign.{Sign}
 use Rattle.term_reader.specs.declared.signs.Sign.TheVariants.{Space, Tab, Digit, Lower, Upper, Open, Close, Comma, Quote, Backslash, Minus, Plus, Control, High, Other}
@@ -17,10 +17,6 @@ use Rattle.term_reader.specs.Readings.{is_lower, is_word}
 use Rattle.term_reader.specs.Limits.{is_i64, all_word, is_name, is_small, text_status, text_from, is_text}
 use Rattle.term_reader.proofs.Bytes.{Tells, sign_tells, byte_back, signs-append}
 use Rattle.term_reader.proofs.Utf8.{first_by, First}
-
-pub both : (a b : Bool) → (a && b) ≡ true → (a ≡ true) × (b ≡ true)
-both true b e = (refl, e)
-both false b e = cc
 
 -- names
 
@@ -45,7 +41,7 @@ word_by b bs w s e t h more = absurd (true≢false (sym h))
 word_for : (bs : List ℕ) (w : Word) → all_word bs ≡ true → WordFor w bs
 unfolding signs
 word_for [] w h = record { made = w; says = refl; written = λ rest. refl }
-word_for (b ∷ bs) w h = let p = both _ _ h in word_by b bs w (sign_of b) refl (sign_tells b) p.0 (λ v. word_for bs v p.1)
+word_for (b ∷ bs) w h = let p = and_parts _ _ h in word_by b bs w (sign_of b) refl (sign_tells b) p.0 (λ v. word_for bs v p.1)
 
 pub record NameFor (name : List ℕ) : Type 0 where
   pub made : Word
@@ -61,7 +57,7 @@ name_by b bs s e t h w = absurd (true≢false (sym h))
 
 pub name_for : (name : List ℕ) → is_name name ≡ true → NameFor name
 name_for [] h = absurd (true≢false (sym h))
-name_for (b ∷ bs) h = let p = both _ _ h in name_by b bs (sign_of b) refl (sign_tells b) p.0 p.1
+name_for (b ∷ bs) h = let p = and_parts _ _ h in name_by b bs (sign_of b) refl (sign_tells b) p.0 p.1
 
 -- numbers
 
@@ -317,7 +313,7 @@ high_next Whole u b h e w = absurd (w (sym e))
 high_next (Needs n) u b h e w = at (fits_need n b) refl
   where
     at : (c : Bool) → fits_need n b ≡ c → 128 ≤ b
-    at true q = let p = both (nat_le n.low b) (nat_le b n.high) q in let x : n.low ≤ b = leb-true _ _ p.0 in let y : 128 ≤ n.low = leb-true _ _ h in omega (arith, x, y)
+    at true q = let p = and_parts (nat_le n.low b) (nat_le b n.high) q in let x : n.low ≤ b = leb-true _ _ p.0 in let y : 128 ≤ n.low = leb-true _ _ h in omega (arith, x, y)
     at false q = absurd (w (sym e ∙ ap (λ c. cond c (status_next n.more) Wrong) q))
 
 -- one more byte of a text, in front of the others

@@ -1,7 +1,7 @@
 -- Bytes that pass the table of characters are a character of UTF-8.
 use Rattle.std.proofs.Common.{◌≡◌, ℕ, ◌+◌, ◌*◌, ◌-◌, ◌/◌, ◌<◌, ◌≤◌, ◌⊎◌, inl, inr, Bool, true, false, ◌&&◌, cond, List, [], ◌∷◌, ◌++◌, refl, sym, ap, ◌∙◌, arith, subst, zero, suc, IsUtf8, append_assoc}
 use Rattle.std.specs.Prelude.{nat_lt, nat_le}
-use Rattle.std.proofs.lemmas.Bool.{leb-true, ltb-true, ltb-false, lt-ltb, le-leb, le-ltb}
+use Rattle.std.proofs.lemmas.Bool.{leb-true, ltb-true, ltb-false, lt-ltb, le-leb, le-ltb, and_parts, cond-true}
 use Rattle.std.proofs.lemmas.Str.{IsUtf8-encode, IsUtf8-append, encode_ascii}
 use lib.Utf8.{scalar, low_scalar, encode, next}
 use Rattle.term_reader.specs.declared.signs.Status.{Status}
@@ -19,19 +19,16 @@ high_scalar c h l = by (nat_lt c 55296) (nat_le 57344 c && nat_lt c 1114112) (in
     inner : (a b : Bool) → a ≡ true → b ≡ true → (a && b) ≡ true
     inner a b e f = rw (e, f) refl
 
-taken : {X : Type 0} (y : Bool) (a b : X) → y ≡ true → cond y a b ≡ a
-taken y a b e = ap (λ t. cond t a b) e
-
 passed : {X : Type 0} (m n : ℕ) (a b : X) → n ≤ m → cond (nat_lt m n) a b ≡ b
 passed m n a b h = ap (λ t. cond t a b) (le-ltb m n h)
 
 two : (c : ℕ) → 128 ≤ c → c < 2048 → encode c ≡ (192 + c / 64) ∷ next c ∷ []
 unfolding encode
-two c l h = passed c 128 _ _ l ∙ taken (nat_lt c 2048) _ _ (lt-ltb c 2048 h)
+two c l h = passed c 128 _ _ l ∙ cond-true (nat_lt c 2048) _ _ (lt-ltb c 2048 h)
 
 three : (c : ℕ) → 2048 ≤ c → c < 65536 → encode c ≡ (224 + c / 4096) ∷ next (c / 64) ∷ next c ∷ []
 unfolding encode
-three c l h = passed c 128 _ _ (omega arith) ∙ passed c 2048 _ _ l ∙ taken (nat_lt c 65536) _ _ (lt-ltb c 65536 h)
+three c l h = passed c 128 _ _ (omega arith) ∙ passed c 2048 _ _ l ∙ cond-true (nat_lt c 65536) _ _ (lt-ltb c 65536 h)
 
 four : (c : ℕ) → 65536 ≤ c → encode c ≡ (240 + c / 262144) ∷ next (c / 4096) ∷ next (c / 64) ∷ next c ∷ []
 unfolding encode
@@ -132,17 +129,13 @@ after_good : (n : ℕ) (l : List ℕ) → After n l → Good l (status_next n)
 after_good zero l h = h
 after_good (suc n) l h = h
 
-both : (a b : Bool) → (a && b) ≡ true → (a ≡ true) × (b ≡ true)
-both true b e = (refl, e)
-both false b e = cc
-
 good_more : (l : List ℕ) (s : Status) (y : ℕ) → Good l s → Good (l ++ y ∷ []) (status_more s y)
 good_more l Wrong y h = tt
 good_more l Whole y h = tt
 good_more l (Needs n) y h = at (fits_need n y) refl
   where
     at : (b : Bool) → fits_need n y ≡ b → Good (l ++ y ∷ []) (cond b (status_next n.more) Wrong)
-    at true e = let p = both (nat_le n.low y) (nat_le y n.high) e in after_good n.more (l ++ y ∷ []) (h y (leb-true _ _ p.0) (leb-true _ _ p.1))
+    at true e = let p = and_parts (nat_le n.low y) (nat_le y n.high) e in after_good n.more (l ++ y ∷ []) (h y (leb-true _ _ p.0) (leb-true _ _ p.1))
     at false e = tt
 
 pub raw-append : (bs : Bytes) (rest : List ℕ) → raw bs rest ≡ raw bs [] ++ rest

@@ -1,5 +1,6 @@
 -- The machine reads exactly the trees of the grammar, and each state that it comes to can be completed.
 use Rattle.std.proofs.Common.{◌≡◌, ◌≢◌, ℕ, ◌+◌, ◌*◌, Bool, true, false, ◌&&◌, cond, List, [], ◌∷◌, Option, Some, None, MatchOption, option_and_then, refl, sym, ap, ◌∙◌, arith, subst, zero, suc}
+use Rattle.ev_term.specs.declared.terms.TheConstants.{MOST_ARGUMENTS, MOST_DEPTH}
 use Rattle.term_reader.specs.declared.signs.Sign.{Sign}
 use Rattle.term_reader.specs.declared.signs.Sign.TheVariants.{Space, Tab, Digit, Lower, Upper, Open, Close, Comma, Quote, Backslash, Minus, Control, High}
 use Rattle.term_reader.specs.declared.signs.Status.{Status}
@@ -12,7 +13,7 @@ use Rattle.term_reader.specs.Grammar.{status, fits, in_range, has_room, number, 
 use Rattle.term_reader.specs.Machine.{Stack, Stack.Top, Stack.First, Stack.Next, opened, guard, blank, behind, character, step, said, stack, so_far, start}
 use Rattle.term_reader.specs.Machine.{State, State.Begin, State.Want, State.InWord, State.Negative, State.InNumber, State.InText, State.InEscape, State.InWide, State.Behind}
 use Rattle.std.specs.Prelude.{nat_lt, nat_le}
-use Rattle.std.proofs.lemmas.Bool.{le-leb, leb-true, lt-ltb, ltb-true}
+use Rattle.std.proofs.lemmas.Bool.{le-leb, leb-true, lt-ltb, ltb-true, and_from}
 
 -- A step keeps all that was read.
 
@@ -98,8 +99,8 @@ Bare k b = Unit {0}
 
 abbrev pub FineStack : Bool → Wanted → Stack → Type 0
 FineStack lim a (Top b) = a ≡ b
-FineStack lim a (First w b k) = (has_room lim (opened k) ≡ true) × FineStack lim a k
-FineStack lim a (Next w xs b k) = (has_room lim (opened k) ≡ true) × FineStack lim a k × FineArgs lim xs (opened k + 1) × (has_room lim (width xs) ≡ true)
+FineStack lim a (First w b k) = (has_room lim MOST_DEPTH (opened k) ≡ true) × FineStack lim a k
+FineStack lim a (Next w xs b k) = (has_room lim MOST_DEPTH (opened k) ≡ true) × FineStack lim a k × FineArgs lim xs (opened k + 1) × (has_room lim MOST_ARGUMENTS (width xs) ≡ true)
 
 abbrev pub IsNeeds : Status → Type 0
 IsNeeds (Needs n) = Unit {0}
@@ -146,7 +147,7 @@ Fines-guard : (lim : Bool) (a : Wanted) (b : Bool) (s : State) → (b ≡ true �
 Fines-guard lim a true s h = h refl
 Fines-guard lim a false s h = tt
 
-room_first : (lim : Bool) → has_room lim 1 ≡ true
+room_first : (lim : Bool) → has_room lim MOST_ARGUMENTS 1 ≡ true
 room_first true = refl
 room_first false = refl
 
@@ -256,11 +257,8 @@ range : (bs : Bytes) → HasRange (status bs)
 range (OneByte b) = first_range b
 range (MoreByte bs b) = more_range (status bs) b
 
-and-true : (a b : Bool) → a ≡ true → b ≡ true → (a && b) ≡ true
-and-true a b e f = rw (e, f) refl
-
 least_fits : (low high more : ℕ) → nat_le low high ≡ true → status_more (needs low high more) low ≡ status_next more
-least_fits low high more h = ap (λ x. cond x (status_next more) Wrong) (and-true (nat_le low low) (nat_le low high) (le-leb low low (omega arith)) h)
+least_fits low high more h = ap (λ x. cond x (status_next more) Wrong) (and_from (nat_le low low) (nat_le low high) (le-leb low low (omega arith)) h)
 
 wide_ends : (lim : Bool) (a : Wanted) (more low high : ℕ) (k : Stack) (l : Letters) (bs : Bytes) → status bs ≡ needs low high more → nat_le low high ≡ true → sign_of low ≡ High low → IsOpen k → FineStack lim a k → FineLetters l → Ends lim a (λ r. stack k (Quote ∷ letters l (bytes bs r)))
 unfolding signs
@@ -399,7 +397,7 @@ over lim x k t u v p (MoreSpace c) s rest h = over lim x k t u v p c Space (s �
 over lim x k t u v p (MoreTab c) s rest h = over lim x k t u v p c Tab (s ∷ rest) tt ∙ ap (option_and_then (walk lim (s ∷ rest))) (v c)
 
 abbrev behind_args : Bool → Word → Args → Stack → Sign → Option State
-behind_args lim w xs k Comma = guard (has_room lim (width xs)) (Want (Next w xs NoBlank k))
+behind_args lim w xs k Comma = guard (has_room lim MOST_ARGUMENTS (width xs)) (Want (Next w xs NoBlank k))
 behind_args lim w xs k Close = Some (Behind (Comp w xs) k NoBlank)
 behind_args lim w xs k s = None
 
@@ -425,7 +423,7 @@ mutual
   walk_tree lim (Text l) k s rest f h = walk_letters lim l k (Quote ∷ s ∷ rest) f
   walk_tree lim (Comp w xs) k s rest f h =
       walk_word lim (Want k) k (λ x. refl) w (Open ∷ args xs (Close ∷ s ∷ rest))
-      ∙ guard_on lim (has_room lim (opened k)) (Want (First w NoBlank k)) (args xs (Close ∷ s ∷ rest)) f.0
+      ∙ guard_on lim (has_room lim MOST_DEPTH (opened k)) (Want (First w NoBlank k)) (args xs (Close ∷ s ∷ rest)) f.0
       ∙ walk_args lim xs w k Close (s ∷ rest) f.1 tt
 
   walk_args : (lim : Bool) (xs : Args) (w : Word) (k : Stack) (s : Sign) (rest : List Sign) → FineArgs lim xs (opened k + 1) → IsEnd s → walk lim (args xs (s ∷ rest)) (Want (First w NoBlank k)) ≡ option_and_then (walk lim rest) (behind_args lim w xs k s)
@@ -435,13 +433,13 @@ mutual
       ∙ ap (option_and_then (walk lim rest)) (first_args lim w b k t c s h)
   walk_args lim (MoreArg xs b t c) w k s rest f h =
       walk_args lim xs w k Comma (blanks b (tree t (blanks c (s ∷ rest)))) f.0 tt
-      ∙ guard_on lim (has_room lim (width xs)) (Want (Next w xs NoBlank k)) (blanks b (tree t (blanks c (s ∷ rest)))) f.1
+      ∙ guard_on lim (has_room lim MOST_ARGUMENTS (width xs)) (Want (Next w xs NoBlank k)) (blanks b (tree t (blanks c (s ∷ rest)))) f.1
       ∙ walk_blanks lim (λ b. Want (Next w xs b k)) (λ b. refl) (λ b. refl) b (tree t (blanks c (s ∷ rest)))
       ∙ over lim (λ r. walk lim (tree t r) (Want (Next w xs b k))) (Next w xs b k) t (λ c. refl) (λ c. refl) (λ s r d. walk_tree lim t (Next w xs b k) s r f.2 d) c s rest (end_delim s h)
       ∙ ap (option_and_then (walk lim rest)) (next_args lim w xs b k t c s h)
 
 walk_opened : (lim : Bool) (w : Word) (xs : Args) (k : Stack) (rest : List Sign) → FineTree lim (Comp w xs) (opened k) → walk lim (Open ∷ args xs (Close ∷ rest)) (InWord w k) ≡ walk lim rest (Behind (Comp w xs) k NoBlank)
-walk_opened lim w xs k rest f = guard_on lim (has_room lim (opened k)) (Want (First w NoBlank k)) (args xs (Close ∷ rest)) f.0 ∙ walk_args lim xs w k Close rest f.1 tt
+walk_opened lim w xs k rest f = guard_on lim (has_room lim MOST_DEPTH (opened k)) (Want (First w NoBlank k)) (args xs (Close ∷ rest)) f.0 ∙ walk_args lim xs w k Close rest f.1 tt
 
 -- a whole tree is read, whatever comes behind it
 abbrev pub behind_tree : Tree → Wanted → State

@@ -25,14 +25,6 @@ step_blank a Space h lim = refl
 step_blank a Tab h lim = refl
 step_blank a x h lim = cc
 
-blank_stops : (a : Wanted) (xs : List ℕ) → begins is_blank xs ≡ true → run xs (Want (Top a)) ≡ Stops Bad xs
-blank_stops a [] e = cc
-blank_stops a (b ∷ rest) e =
-    ap (onward (run rest) (Want (Top a)) b rest) (step_blank a (sign_of b) e true) ∙ ap (λ o. halted o (Want (Top a)) b rest) (step_blank a (sign_of b) e false)
-
-pub blank_first : (bytes : List ℕ) (at : ℕ) → at ≤ length bytes → begins is_blank (drop at bytes) ≡ true → (at ≤ length bytes) × (run (drop at bytes) (start AnyTerm) ≡ Stops Bad (drop at bytes))
-blank_first bytes at h e = (h, blank_stops AnyTerm (drop at bytes) e)
-
 step_begin : (x : Sign) → is_lower x ≡ false → (lim : Bool) → step lim Begin x ≡ None
 step_begin (Lower b) h lim = cc
 step_begin x h lim = refl
@@ -58,9 +50,6 @@ comp_given bytes at end close name name' items args h g n q = (
   record { ordered = omega (arith, h.ordered, g.ordered); inside = g.inside; reads = h.starts ∙ g.reads h.word (Top AnAtom) refl ∙ over_top AnAtom (Comp h.word g.args) (drop close bytes) },
   (λ i. record { name = (h.is ∙ sym n) i; args = (g.says ∙ sym q) i }),
 )
-
-pub args_fail : (bytes : List ℕ) (at end : ℕ) (name : List ℕ) (fault : TermFault) → (h : NameRead bytes at name end) → Fails bytes fault (run (drop end bytes) (InWord h.word (Top AnAtom))) → Fails bytes fault (run (drop at bytes) (start AnAtom))
-args_fail bytes at end name fault h f = subst (Fails bytes fault) (sym h.starts) f
 
 -- From runs to the bytes.
 

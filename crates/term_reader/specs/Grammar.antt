@@ -1,5 +1,8 @@
 -- Terms as they are written: trees of the grammar, the signs and the value of a tree, and which trees are within the limits.
 use Rattle.std.specs.Prelude.{◌≡◌, ◌≢◌, length, ℕ, ◌+◌, ◌*◌, ◌^◌, ◌-◌, ◌≤◌, Bool, true, false, List, [], ◌∷◌, ◌++◌, nat_le, nat_lt, zero, suc, ℤ, pos, negsuc, take, drop, ◌==◌, ◌&&◌, Result, Ok, Err}
+use Rattle.ev_term.specs.Bytes.{open_round, comma, digit_0, digit_9}
+use Rattle.ev_term.specs.declared.terms.TheConstants.{MOST_ARGUMENTS, MOST_DEPTH}
+use Rattle.term_reader.specs.declared.numbers.TheConstants.{NUMBER_LIMIT}
 use Rattle.term_reader.specs.declared.signs.Sign.{Sign}
 use Rattle.term_reader.specs.declared.signs.Sign.TheVariants.{Space, Tab, Digit, Lower, Upper, Open, Close, Comma, Quote, Backslash, Minus, High}
 use Rattle.term_reader.specs.declared.signs.Status.{Status}
@@ -116,7 +119,7 @@ abbrev pub named : Word → List ℕ → List ℕ
 named (OneLower b) rest = b ∷ rest
 named (MoreLower w b) rest = named w (b ∷ rest)
 named (MoreUpper w b) rest = named w (b ∷ rest)
-named (MoreNumber w d) rest = named w ((d + 48) ∷ rest)
+named (MoreNumber w d) rest = named w ((d + digit_0) ∷ rest)
 
 abbrev pub raw : Bytes → List ℕ → List ℕ
 raw (OneByte x) rest = x ∷ rest
@@ -152,17 +155,17 @@ atom_value (Comp w xs) = record { name = named w []; args = values xs [] }
 
 -- an i64
 abbrev pub fits : Bool → ℕ → Bool
-fits true n = nat_le n (2 ^ 63)
-fits false n = nat_lt n (2 ^ 63)
+fits true n = nat_le n NUMBER_LIMIT
+fits false n = nat_lt n NUMBER_LIMIT
 
 abbrev pub in_range : Bool → Bool → ℕ → Bool
 in_range true m n = fits m n
 in_range false m n = true
 
 -- whether one more goes where there are so many
-abbrev pub has_room : Bool → ℕ → Bool
-has_room true n = nat_lt n 16
-has_room false n = true
+abbrev pub has_room : Bool → ℕ → ℕ → Bool
+has_room true most n = nat_lt n most
+has_room false most n = true
 
 abbrev pub status : Bytes → Status
 status (OneByte b) = status_first b
@@ -184,11 +187,11 @@ abbrev mutual
   FineTree lim (Number m ds) n = in_range lim m (number ds) ≡ true
   FineTree lim (Name w) n = Unit {0}
   FineTree lim (Text l) n = FineLetters l
-  FineTree lim (Comp w xs) n = (has_room lim n ≡ true) × FineArgs lim xs (n + 1)
+  FineTree lim (Comp w xs) n = (has_room lim MOST_DEPTH n ≡ true) × FineArgs lim xs (n + 1)
 
   pub FineArgs : Bool → Args → ℕ → Type 0
   FineArgs lim (OneArg b t c) n = FineTree lim t n
-  FineArgs lim (MoreArg xs b t c) n = FineArgs lim xs n × (has_room lim (width xs) ≡ true) × FineTree lim t n
+  FineArgs lim (MoreArg xs b t c) n = FineArgs lim xs n × (has_room lim MOST_ARGUMENTS (width xs) ≡ true) × FineTree lim t n
 
 -- what is read: a term, or an atom, whose depth isn't counted
 pub data Wanted : Type 0 where
@@ -257,13 +260,13 @@ pub record PastLimit (kind : ℕ → Bool) (wanted : Wanted) (bytes : List ℕ) 
   pub viable : Viable false wanted (between at place bytes ++ byte ∷ [])
 
 abbrev pub is_open : ℕ → Bool
-is_open b = b == 40
+is_open b = b == open_round
 
 abbrev pub is_comma : ℕ → Bool
-is_comma b = b == 44
+is_comma b = b == comma
 
 abbrev pub is_digit : ℕ → Bool
-is_digit b = nat_le 48 b && nat_le b 57
+is_digit b = nat_le digit_0 b && nat_le b digit_9
 
 abbrev pub FaultAt : Wanted → List ℕ → ℕ → TermFault → Type 0
 FaultAt wanted bytes at (Syntax place) = BadAt wanted bytes at place

@@ -1,5 +1,5 @@
 -- Which terms and atoms are within the limits, and what may stand behind a canonical text.
-use Rattle.std.specs.Prelude.{◌≡◌, ℕ, ◌+◌, ◌^◌, Bool, true, false, cond, ◌&&◌, ◌||◌, ◌==◌, nat_lt, nat_le, List, [], ◌∷◌, ◌++◌, length, map, drop, ℤ, pos, negsuc, Result, Ok, Err}
+use Rattle.std.specs.Prelude.{◌≡◌, ℕ, ◌+◌, Bool, true, false, cond, ◌&&◌, ◌||◌, ◌==◌, nat_lt, nat_le, List, [], ◌∷◌, ◌++◌, length, map, drop, ℤ, pos, negsuc, Result, Ok, Err}
 use Rattle.std.proofs.Common.{ap, ◌∙◌}
 use Rattle.ev_term.specs.declared.terms.Term.{Term, out-Term}
 use Rattle.ev_term.specs.declared.terms.Term.TheOpen.{Term-F}
@@ -7,6 +7,10 @@ use Rattle.ev_term.specs.declared.terms.Term.TheOpen.Term-F.{Num, Sym, Text, Com
 use Rattle.ev_term.specs.declared.terms.Term.TheFolds.{fold-Term, fold_out-Term, map-Term}
 use Rattle.ev_term.specs.declared.atoms.Atom.{Atom}
 use Rattle.ev_term.specs.Text.{term_text, atom_text}
+use Rattle.ev_term.specs.Bytes.{tab, feed, space}
+use Rattle.ev_term.specs.declared.terms.TheConstants.{MOST_ARGUMENTS, MOST_DEPTH}
+use Rattle.term_reader.specs.declared.signs.TheConstants.{ASCII_LIMIT}
+use Rattle.term_reader.specs.declared.numbers.TheConstants.{NUMBER_LIMIT}
 use Rattle.term_reader.specs.declared.faults.TermFault.{TermFault}
 use Rattle.term_reader.specs.declared.faults.TermFault.TheVariants.{Memory}
 use Rattle.term_reader.specs.declared.signs.Sign.{Sign}
@@ -18,8 +22,8 @@ use Rattle.term_reader.specs.Grammar.{Tree, Wanted.AnyTerm, Wanted.AnAtom, Stand
 use Rattle.term_reader.specs.Readings.{is_lower, is_word, begins}
 
 abbrev pub is_i64 : ℤ → Bool
-is_i64 (pos n) = nat_lt n (2 ^ 63)
-is_i64 (negsuc n) = nat_lt n (2 ^ 63)
+is_i64 (pos n) = nat_lt n NUMBER_LIMIT
+is_i64 (negsuc n) = nat_lt n NUMBER_LIMIT
 
 -- letters, digits and `_`
 abbrev pub all_word : List ℕ → Bool
@@ -31,21 +35,21 @@ abbrev pub is_name : List ℕ → Bool
 is_name [] = false
 is_name (b ∷ bytes) = is_lower (sign_of b) && all_word bytes
 
--- a character below 128 that a text may hold
+-- a character of one byte that a text may hold
 abbrev pub is_small : ℕ → Bool
-is_small b = nat_le 32 b || b == 9 || b == 10
+is_small b = nat_le space b || b == tab || b == feed
 
 -- how far a text is well-formed with one more byte; `Whole` where a character begins
 abbrev pub text_status : Status → ℕ → Status
 text_status Wrong b = Wrong
-text_status Whole b = cond (nat_lt b 128) (cond (is_small b) Whole Wrong) (status_first b)
+text_status Whole b = cond (nat_lt b ASCII_LIMIT) (cond (is_small b) Whole Wrong) (status_first b)
 text_status (Needs n) b = status_more (Needs n) b
 
 abbrev pub text_from : Status → List ℕ → Bool
 text_from s [] = is_whole s
 text_from s (b ∷ bytes) = text_from (text_status s b) bytes
 
--- well-formed UTF-8 without code points below 32 but 9 and 10
+-- well-formed UTF-8 without control characters but tab and line feed
 abbrev pub is_text : List ℕ → Bool
 is_text bytes = text_from Whole bytes
 
@@ -53,12 +57,14 @@ abbrev pub all_within : List (ℕ → Bool) → ℕ → Bool
 all_within [] n = true
 all_within (f ∷ fs) n = f n && all_within fs n
 
--- at a depth: a compound has one to sixteen arguments, which are one deeper, at most at 16
+-- at a depth: a compound has at least one argument, and its arguments are one deeper
 abbrev pub within_step : Term-F (ℕ → Bool) → ℕ → Bool
 within_step (Num z) n = is_i64 z
 within_step (Sym name) n = is_name name
 within_step (Text text) n = is_text text
-within_step (Comp name args) n = is_name name && (nat_lt n 16 && (nat_le 1 (length args) && (nat_le (length args) 16 && all_within args (n + 1))))
+within_step (Comp name args) n =
+    is_name name && (nat_lt n MOST_DEPTH
+    && (nat_le 1 (length args) && (nat_le (length args) MOST_ARGUMENTS && all_within args (n + 1))))
 
 unfoldable pub within : Term → ℕ → Bool
 within = fold-Term (ℕ → Bool) within_step
@@ -72,7 +78,7 @@ abbrev pub is_within : Term → Bool
 is_within t = within t 1
 
 abbrev pub is_atom_within : Atom → Bool
-is_atom_within a = is_name a.name && (nat_le (length a.args) 16 && all_within (map within a.args) 1)
+is_atom_within a = is_name a.name && (nat_le (length a.args) MOST_ARGUMENTS && all_within (map within a.args) 1)
 
 -- with these a name or a number goes on
 abbrev pub goes_on : Sign → Bool
@@ -92,11 +98,13 @@ Gives x end (Err fault) = fault ≡ Memory
 
 -- the canonical text of a term within the limits gives it back, and is read to its end
 abbrev pub TermBack : List ℕ → ℕ → Result (Term × ℕ) TermFault → Type 0
-TermBack bytes at r = (t : Term) (rest : List ℕ) → is_within t ≡ true → drop at bytes ≡ term_text t ++ rest → Free rest → Gives t (at + length (term_text t)) r
+TermBack bytes at r = (t : Term) (rest : List ℕ) → is_within t ≡ true → drop at bytes ≡ term_text t ++ rest → Free rest
+    → Gives t (at + length (term_text t)) r
 
 -- the same of an atom
 abbrev pub AtomBack : List ℕ → ℕ → Result (Atom × ℕ) TermFault → Type 0
-AtomBack bytes at r = (a : Atom) (rest : List ℕ) → is_atom_within a ≡ true → drop at bytes ≡ atom_text a ++ rest → Free rest → Gives a (at + length (atom_text a)) r
+AtomBack bytes at r = (a : Atom) (rest : List ℕ) → is_atom_within a ≡ true → drop at bytes ≡ atom_text a ++ rest → Free rest
+    → Gives a (at + length (atom_text a)) r
 
 -- nothing of the grammar is refused: a tree that stands there is read
 abbrev pub TermFound : List ℕ → ℕ → Result (Term × ℕ) TermFault → Type 0

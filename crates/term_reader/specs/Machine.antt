@@ -1,5 +1,6 @@
 -- A machine that reads a tree sign by sign. A state is what has been read, held as trees.
 use Rattle.std.specs.Prelude.{ℕ, ◌+◌, Bool, true, false, List, ◌∷◌, cond, Option, Some, None}
+use Rattle.ev_term.specs.declared.terms.TheConstants.{MOST_ARGUMENTS, MOST_DEPTH}
 use Rattle.term_reader.specs.declared.signs.Sign.{Sign}
 use Rattle.term_reader.specs.declared.signs.Sign.TheVariants.{Space, Tab, Digit, Lower, Upper, Open, Close, Comma, Quote, Backslash, Minus, High}
 use Rattle.term_reader.specs.declared.signs.Status.{Status}
@@ -55,7 +56,7 @@ behind lim (First w b k) t c Close = Some (Behind (Comp w (OneArg b t c)) k NoBl
 behind lim (First w b k) t c s = None
 behind lim (Next w xs b k) t c Space = Some (Behind t (Next w xs b k) (MoreSpace c))
 behind lim (Next w xs b k) t c Tab = Some (Behind t (Next w xs b k) (MoreTab c))
-behind lim (Next w xs b k) t c Comma = guard (has_room lim (width xs + 1)) (Want (Next w (MoreArg xs b t c) NoBlank k))
+behind lim (Next w xs b k) t c Comma = guard (has_room lim MOST_ARGUMENTS (width xs + 1)) (Want (Next w (MoreArg xs b t c) NoBlank k))
 behind lim (Next w xs b k) t c Close = Some (Behind (Comp w (MoreArg xs b t c)) k NoBlank)
 behind lim (Next w xs b k) t c s = None
 
@@ -83,7 +84,7 @@ step lim (InNumber m ds k) s = behind lim k (Number m ds) NoBlank s
 step lim (InWord w k) (Lower x) = Some (InWord (MoreLower w x) k)
 step lim (InWord w k) (Upper x) = Some (InWord (MoreUpper w x) k)
 step lim (InWord w k) (Digit x) = Some (InWord (MoreNumber w x) k)
-step lim (InWord w k) Open = guard (has_room lim (opened k)) (Want (First w NoBlank k))
+step lim (InWord w k) Open = guard (has_room lim MOST_DEPTH (opened k)) (Want (First w NoBlank k))
 step lim (InWord w k) s = behind lim k (Name w) NoBlank s
 step lim (InText l k) Quote = Some (Behind (Text l) k NoBlank)
 step lim (InText l k) Backslash = Some (InEscape l k)

@@ -1,10 +1,12 @@
 -- What a reading function gives, under every context.
-use Rattle.std.specs.Prelude.{◌≡◌, ℕ, ◌+◌, ◌-◌, ◌^◌, ◌<◌, ◌≤◌, Bool, true, false, List, [], ◌∷◌, ◌++◌, length, drop, Option, Some, None, Result, Ok, Err, IsUtf8}
+use Rattle.std.specs.Prelude.{◌≡◌, ℕ, ◌+◌, ◌-◌, ◌<◌, ◌≤◌, Bool, true, false, List, [], ◌∷◌, ◌++◌, length, drop, Option, Some, None, Result, Ok, Err, IsUtf8}
 use Rattle.std.specs.declared.alloc.Global.{Global}
 use Rattle.std.specs.declared.vec.Vec.{Vec}
 use Rattle.ev_term.specs.declared.terms.Term.{Term}
 use Rattle.ev_term.specs.declared.atoms.Atom.{Atom}
 use Rattle.ev_term.specs.declared.terms.Term.TheVariants as made
+use Rattle.ev_term.specs.declared.terms.TheConstants.{MOST_ARGUMENTS}
+use Rattle.term_reader.specs.declared.numbers.TheConstants.{NUMBER_LIMIT}
 use Rattle.term_reader.specs.declared.faults.TermFault.{TermFault}
 use Rattle.term_reader.specs.declared.faults.TermFault.TheVariants.{Syntax, TooDeep, TooWide, NumberRange, Memory}
 use Rattle.term_reader.specs.declared.peeking.Mark.{Mark}
@@ -73,8 +75,8 @@ MaybeNeed s (Some n) = s ≡ Needs n
 
 -- the greatest size of a number
 abbrev pub most_of : Bool → ℕ
-most_of true = 2 ^ 63
-most_of false = 2 ^ 63 - 1
+most_of true = NUMBER_LIMIT
+most_of false = NUMBER_LIMIT - 1
 
 -- this sign stands at the place
 pub record SignAt (bytes : List ℕ) (at : ℕ) (s : Sign) : Type 0 where
@@ -110,7 +112,7 @@ Fails bytes (TooWide place) o = (place ≤ length bytes) × (o ≡ Stops Wide (d
 Fails bytes (NumberRange place) o = (place ≤ length bytes) × (o ≡ Stops Range (drop place bytes))
 Fails bytes Memory o = Unit {0}
 
--- a word goes on up to a place; its letters are below 128
+-- a word goes on up to a place; its letters are of one byte
 
 abbrev pub SmallWord : Word → Type 0
 SmallWord w = (rest : List ℕ) → IsUtf8 rest → IsUtf8 (named w rest)
@@ -118,13 +120,17 @@ SmallWord w = (rest : List ℕ) → IsUtf8 rest → IsUtf8 (named w rest)
 pub record WordRead (bytes : List ℕ) (at end : ℕ) : Type 0 where
   pub ordered : at ≤ end
   pub inside : end ≤ length bytes
-  pub reads : (w : Word) → SmallWord w → (v : Word) × SmallWord v × ((k : Stack) → run (drop at bytes) (InWord w k) ≡ run (drop end bytes) (InWord v k)) × (named w (drop at bytes) ≡ named v (drop end bytes))
+  pub reads : (w : Word) → SmallWord w
+      → (v : Word) × SmallWord v × ((k : Stack) → run (drop at bytes) (InWord w k) ≡ run (drop end bytes) (InWord v k))
+      × (named w (drop at bytes) ≡ named v (drop end bytes))
 
 -- blanks go on up to a place
 pub record BlanksRead (bytes : List ℕ) (at end : ℕ) : Type 0 where
   pub ordered : at ≤ end
   pub inside : end ≤ length bytes
-  pub reads : (b : Blanks) → (c : Blanks) × ((f : Blanks → State) → ((b : Blanks) → step true (f b) Space ≡ Some (f (MoreSpace b))) → ((b : Blanks) → step true (f b) Tab ≡ Some (f (MoreTab b))) → run (drop at bytes) (f b) ≡ run (drop end bytes) (f c))
+  pub reads : (b : Blanks) → (c : Blanks) × ((f : Blanks → State)
+      → ((b : Blanks) → step true (f b) Space ≡ Some (f (MoreSpace b))) → ((b : Blanks) → step true (f b) Tab ≡ Some (f (MoreTab b)))
+      → run (drop at bytes) (f b) ≡ run (drop end bytes) (f c))
 
 -- a whole name, and what stands behind it
 pub record NameRead (bytes : List ℕ) (at : ℕ) (name : List ℕ) (end : ℕ) : Type 0 where
@@ -141,11 +147,13 @@ pub record DigitsRead (bytes : List ℕ) (negative : Bool) (so_far at size end :
   pub ordered : at ≤ end
   pub inside : end ≤ length bytes
   pub fits : fits negative size ≡ true
-  pub reads : (ds : Digits) → number ds ≡ so_far → (es : Digits) × (number es ≡ size) × ((k : Stack) → run (drop at bytes) (InNumber negative ds k) ≡ run (drop end bytes) (InNumber negative es k))
+  pub reads : (ds : Digits) → number ds ≡ so_far → (es : Digits) × (number es ≡ size)
+      × ((k : Stack) → run (drop at bytes) (InNumber negative ds k) ≡ run (drop end bytes) (InNumber negative es k))
 
 abbrev pub DigitsAt : List ℕ → Bool → ℕ → ℕ → Result (ℕ × ℕ) TermFault → Type 0
 DigitsAt bytes negative so_far at (Ok x) = DigitsRead bytes negative so_far at x.0 x.1 × (begins is_digit (drop x.1 bytes) ≡ false)
-DigitsAt bytes negative so_far at (Err fault) = (ds : Digits) → number ds ≡ so_far → (k : Stack) → Fails bytes fault (run (drop at bytes) (InNumber negative ds k))
+DigitsAt bytes negative so_far at (Err fault) =
+    (ds : Digits) → number ds ≡ so_far → (k : Stack) → Fails bytes fault (run (drop at bytes) (InNumber negative ds k))
 
 -- a tree stands here, with this value
 pub record TreeRead (bytes : List ℕ) (at depth : ℕ) (v : Term) (end : ℕ) : Type 0 where
@@ -166,7 +174,8 @@ pub record NumberRead (bytes : List ℕ) (at : ℕ) (negative : Bool) (first : �
   pub says : made.Num (signed negative (number digits)) ≡ v
   pub ordered : at ≤ end
   pub inside : end ≤ length bytes
-  pub reads : (k : Stack) → run (drop at bytes) (InNumber negative (OneDigit first) k) ≡ run (drop end bytes) (Behind (Number negative digits) k NoBlank)
+  pub reads : (k : Stack)
+      → run (drop at bytes) (InNumber negative (OneDigit first) k) ≡ run (drop end bytes) (Behind (Number negative digits) k NoBlank)
 
 abbrev pub NumberAt : List ℕ → ℕ → Bool → ℕ → Result (Term × ℕ) TermFault → Type 0
 NumberAt bytes at negative first (Ok x) = NumberRead bytes at negative first x.0 x.1
@@ -248,11 +257,13 @@ pub record ArgRead (bytes : List ℕ) (at depth : ℕ) (v : Term) (end : ℕ) : 
   pub says : value tree ≡ v
   pub ordered : at ≤ end
   pub inside : end ≤ length bytes
-  pub reads : (w : Word) (o : Option Args) (k : Stack) → opened k + 1 ≡ depth → run (drop at bytes) (Want (frame w o NoBlank k)) ≡ run (drop end bytes) (Behind tree (frame w o before k) after)
+  pub reads : (w : Word) (o : Option Args) (k : Stack) → opened k + 1 ≡ depth
+      → run (drop at bytes) (Want (frame w o NoBlank k)) ≡ run (drop end bytes) (Behind tree (frame w o before k) after)
 
 abbrev pub ArgAt : List ℕ → ℕ → ℕ → Result (Term × ℕ) TermFault → Type 0
 ArgAt bytes at depth (Ok x) = ArgRead bytes at depth x.0 x.1
-ArgAt bytes at depth (Err fault) = (w : Word) (o : Option Args) (k : Stack) → opened k + 1 ≡ depth → Fails bytes fault (run (drop at bytes) (Want (frame w o NoBlank k)))
+ArgAt bytes at depth (Err fault) =
+    (w : Word) (o : Option Args) (k : Stack) → opened k + 1 ≡ depth → Fails bytes fault (run (drop at bytes) (Want (frame w o NoBlank k)))
 
 -- the arguments so far, where the next one is wanted
 abbrev pub values_of : Option Args → List Term
@@ -267,10 +278,11 @@ pub record ArgsSoFar (bytes : List ℕ) (at depth : ℕ) (items : List Term) (ne
   pub some : Option Args
   pub says : values_of some ≡ items
   pub width : width_of some ≡ length items
-  pub narrow : length items < 16
+  pub narrow : length items < MOST_ARGUMENTS
   pub ordered : at ≤ next
   pub inside : next ≤ length bytes
-  pub reads : (w : Word) (k : Stack) → opened k ≡ depth → run (drop at bytes) (InWord w k) ≡ run (drop next bytes) (Want (frame w some NoBlank k))
+  pub reads : (w : Word) (k : Stack) → opened k ≡ depth
+      → run (drop at bytes) (InWord w k) ≡ run (drop next bytes) (Want (frame w some NoBlank k))
 
 -- brackets with arguments
 pub record ArgsRead (bytes : List ℕ) (at depth : ℕ) (items : List Term) (end : ℕ) : Type 0 where
@@ -278,7 +290,8 @@ pub record ArgsRead (bytes : List ℕ) (at depth : ℕ) (items : List Term) (end
   pub says : values args [] ≡ items
   pub ordered : at < end
   pub inside : end ≤ length bytes
-  pub reads : (w : Word) (k : Stack) → opened k ≡ depth → run (drop at bytes) (InWord w k) ≡ run (drop end bytes) (Behind (Comp w args) k NoBlank)
+  pub reads : (w : Word) (k : Stack) → opened k ≡ depth
+      → run (drop at bytes) (InWord w k) ≡ run (drop end bytes) (Behind (Comp w args) k NoBlank)
 
 abbrev pub ArgsAt : List ℕ → ℕ → ℕ → Result (Vec Term Global × ℕ) TermFault → Type 0
 ArgsAt bytes at depth (Ok x) = ArgsRead bytes at depth x.0.items x.1

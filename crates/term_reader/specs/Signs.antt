@@ -1,33 +1,57 @@
 -- What a byte is to the grammars of terms and lines, and which bytes are a character.
 use Rattle.std.specs.Prelude.{ℕ, ◌+◌, ◌<◌, ◌-◌, zero, suc, Bool, true, false, List, [], ◌∷◌, map, cond, ◌==◌, nat_lt, nat_le, ◌&&◌, ◌||◌}
+use Rattle.ev_term.specs.Bytes.{tab, feed, space, quote, open_round, close_round, plus, comma, minus, digit_0, digit_9, backslash, underscore}
+use Rattle.term_reader.specs.declared.signs.TheConstants.{ASCII_LIMIT}
 use Rattle.term_reader.specs.declared.signs.Sign.{Sign}
 use Rattle.term_reader.specs.declared.signs.Sign.TheVariants.{Space, Tab, Digit, Lower, Upper, Open, Close, Comma, Quote, Backslash, Minus, Plus, Control, High, Other}
 use Rattle.term_reader.specs.declared.signs.Need.{Need}
 use Rattle.term_reader.specs.declared.signs.Status.{Status}
 use Rattle.term_reader.specs.declared.signs.Status.TheVariants.{Wrong, Whole, Needs}
 
+-- bytes of letters
+abbrev pub lower_a : ℕ
+lower_a = 97
+
+abbrev pub lower_n : ℕ
+lower_n = 110
+
+abbrev pub lower_t : ℕ
+lower_t = 116
+
+abbrev pub lower_z : ℕ
+lower_z = 122
+
+abbrev pub upper_a : ℕ
+upper_a = 65
+
+abbrev pub upper_z : ℕ
+upper_z = 90
+
 -- the sign of a byte; `_` is among the upper letters, and a digit has its value
 abbrev pub sign_of : ℕ → Sign
 sign_of b =
-    cond (b == 32) Space (cond (b == 9) Tab (cond (b == 40) Open (cond (b == 41) Close (cond (b == 44) Comma (cond (b == 34) Quote
-    (cond (b == 92) Backslash (cond (b == 45) Minus (cond (b == 43) Plus (cond (b == 95) (Upper b)
-    (cond (nat_lt b 32) (Control b) (cond (nat_le 128 b) (High b) (cond (nat_le 48 b && nat_le b 57) (Digit (b - 48))
-    (cond (nat_le 97 b && nat_le b 122) (Lower b) (cond (nat_le 65 b && nat_le b 90) (Upper b) (Other b)))))))))))))))
+    cond (b == space) Space (cond (b == tab) Tab (cond (b == open_round) Open (cond (b == close_round) Close
+    (cond (b == comma) Comma (cond (b == quote) Quote (cond (b == backslash) Backslash
+    (cond (b == minus) Minus (cond (b == plus) Plus (cond (b == underscore) (Upper b)
+    (cond (nat_lt b space) (Control b) (cond (nat_le ASCII_LIMIT b) (High b)
+    (cond (nat_le digit_0 b && nat_le b digit_9) (Digit (b - digit_0))
+    (cond (nat_le lower_a b && nat_le b lower_z) (Lower b)
+    (cond (nat_le upper_a b && nat_le b upper_z) (Upper b) (Other b)))))))))))))))
 
 -- the byte of a sign
 abbrev pub byte_of : Sign → ℕ
-byte_of Space = 32
-byte_of Tab = 9
-byte_of (Digit d) = d + 48
+byte_of Space = space
+byte_of Tab = tab
+byte_of (Digit d) = d + digit_0
 byte_of (Lower b) = b
 byte_of (Upper b) = b
-byte_of Open = 40
-byte_of Close = 41
-byte_of Comma = 44
-byte_of Quote = 34
-byte_of Backslash = 92
-byte_of Minus = 45
-byte_of Plus = 43
+byte_of Open = open_round
+byte_of Close = close_round
+byte_of Comma = comma
+byte_of Quote = quote
+byte_of Backslash = backslash
+byte_of Minus = minus
+byte_of Plus = plus
 byte_of (Control b) = b
 byte_of (High b) = b
 byte_of (Other b) = b
@@ -52,12 +76,12 @@ is_plain s = true
 abbrev pub is_escape : Sign → Bool
 is_escape Quote = true
 is_escape Backslash = true
-is_escape (Lower b) = (b == 110) || (b == 116)
+is_escape (Lower b) = (b == lower_n) || (b == lower_t)
 is_escape s = false
 
 -- what stands for an escape in the text: a line feed for `n`, a tab for `t`
 abbrev pub escaped : Sign → ℕ
-escaped (Lower b) = cond (b == 110) 10 9
+escaped (Lower b) = cond (b == lower_n) feed tab
 escaped s = byte_of s
 
 -- a character goes on with a byte from low to high, and then with so many more of 0x80 to 0xBF

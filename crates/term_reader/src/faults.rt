@@ -8,10 +8,10 @@ use thiserror::Error;
 pub enum TermFault {
     #[error("syntax at {0}")]
     Syntax(usize),
-    /// At the `(` that would give a term a depth over 16.
+    /// At the `(` that would give a term a depth over `MOST_DEPTH`.
     #[error("too deep at {0}")]
     TooDeep(usize),
-    /// At the `,` behind a sixteenth argument.
+    /// At the `,` behind `MOST_ARGUMENTS` arguments.
     #[error("too wide at {0}")]
     TooWide(usize),
     /// At the digit that leaves an `i64`.

@@ -11,4 +11,5 @@ mod trees;
 mod words;
 
 pub use faults::TermFault;
+pub use numbers::NUMBER_LIMIT;
 pub use reading::{read_atom, read_ground};

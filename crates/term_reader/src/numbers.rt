@@ -7,11 +7,18 @@ use crate::faults::TermFault;
 use crate::peeking::sign_at;
 use crate::signs::Sign;
 
+/// The size of the least number, 2^63; each number that isn't negative is below it.
+pub const NUMBER_LIMIT: u64 = 1 << 63;
+
 // The greatest size of a number.
 fn most_of(negative: bool) -> u64
     ensures { result ≡ most_of negative }
 {
-    if negative { 1 << 63 } else { (1 << 63) - 1 }
+    if negative {
+        NUMBER_LIMIT
+    } else {
+        NUMBER_LIMIT - 1
+    }
 }
 
 /// The rest of a number, whose digits so far have this size.
@@ -46,7 +53,7 @@ pub(crate) fn signed(negative: bool, size: u64) -> i64
     if !negative {
         return size as i64;
     }
-    if size == 1 << 63 {
+    if size == NUMBER_LIMIT {
         return i64::MIN;
     }
     -(size as i64)

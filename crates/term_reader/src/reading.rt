@@ -32,7 +32,7 @@ fn term_at(alloc: Global, bytes: &[u8], at: usize) -> Result<(Term, usize), Term
     tree_at(alloc, bytes, at, 1)
 }
 
-/// Reads the atom that stands at a place, and gives the place behind it. Its arguments may be 16 deep.
+/// Reads the atom that stands at a place, and gives the place behind it. Its arguments may be `MOST_DEPTH` deep.
 pub fn read_atom(alloc: Global, bytes: &[u8], at: usize) -> Result<(Atom, usize), TermFault>
     requires { at ≤ length bytes.now }
     ensures read { AtomRead bytes.now at result }

@@ -2,6 +2,9 @@
 ghost use Rattle.std.specs.Prelude.{◌≡◌};
 ghost use Rattle.term_reader.specs.Signs.{sign_of, DigitFits, status_first, status_more, status_next, needs};
 
+/// Bytes from here on are parts of characters of several bytes.
+pub const ASCII_LIMIT: u8 = 128;
+
 /// What a byte is to the grammar; `_` is among the upper letters, and a digit has its value.
 #[derive(Clone, Copy)]
 pub enum Sign {
@@ -55,9 +58,9 @@ pub fn classify(byte: u8) -> Sign
         b'+' => Sign::Plus,
         b'_' => Sign::Upper(byte),
         _ => {
-            if byte < 32 {
+            if byte < b' ' {
                 Sign::Control(byte)
-            } else if byte >= 128 {
+            } else if byte >= ASCII_LIMIT {
                 Sign::High(byte)
             } else if byte >= b'0' && byte <= b'9' {
                 Sign::Digit(byte - b'0')

@@ -9,7 +9,7 @@ use crate::peeking::{Mark, blanks_end, mark_at, opens, sign_at};
 use crate::signs::Sign;
 use crate::texts::text_at;
 use crate::words::name_at;
-use ev_term::{Shared, Term};
+use ev_term::{MOST_ARGUMENTS, MOST_DEPTH, Shared, Term};
 use std::alloc::{AllocError, Global};
 
 // The rest of a number, behind its first digit.
@@ -53,10 +53,10 @@ pub(crate) fn tree_at(
     alloc: Global,
     bytes: &[u8],
     at: usize,
-    depth: u8,
+    depth: usize,
 ) -> Result<(Term, usize), TermFault>
     requires inside { at ≤ length bytes.now }
-    requires depth { depth ≤ 16 }
+    requires depth { depth ≤ MOST_DEPTH }
     requires bare { begins is_blank (drop at bytes.now) ≡ false }
     ensures { TreeAt bytes.now at depth result }
 {
@@ -71,9 +71,14 @@ pub(crate) fn tree_at(
 
 // A name or a compound.
 #[cycle(tree)]
-fn named_at(alloc: Global, bytes: &[u8], at: usize, depth: u8) -> Result<(Term, usize), TermFault>
+fn named_at(
+    alloc: Global,
+    bytes: &[u8],
+    at: usize,
+    depth: usize,
+) -> Result<(Term, usize), TermFault>
     requires inside { at < length bytes.now }
-    requires depth { depth ≤ 16 }
+    requires depth { depth ≤ MOST_DEPTH }
     requires lower { begins is_lower (drop at bytes.now) ≡ true }
     ensures { TreeAt bytes.now at depth result }
 {
@@ -91,14 +96,14 @@ pub(crate) fn args_at(
     alloc: Global,
     bytes: &[u8],
     at: usize,
-    depth: u8,
+    depth: usize,
 ) -> Result<(Vec<Term>, usize), TermFault>
     requires inside { at ≤ length bytes.now }
-    requires depth { depth ≤ 16 }
+    requires depth { depth ≤ MOST_DEPTH }
     requires open { begins is_open (drop at bytes.now) ≡ true }
     ensures { ArgsAt bytes.now at depth result }
 {
-    if depth >= 16 {
+    if depth >= MOST_DEPTH {
         return Err(TermFault::TooDeep(at));
     }
     let mut args = Vec::new(alloc);
@@ -109,7 +114,7 @@ pub(crate) fn args_at(
         match mark_at(bytes, end) {
             Some(Mark::Last) => return Ok((args, end + 1)),
             Some(Mark::More) => {
-                if args.len() >= 16 {
+                if args.len() >= MOST_ARGUMENTS {
                     return Err(TermFault::TooWide(end));
                 }
                 next = end + 1;
@@ -128,9 +133,9 @@ fn keep(args: &mut Vec<Term>, arg: Term) -> Result<(), AllocError>
 
 // An argument with the blanks before and behind it.
 #[cycle(tree)]
-fn arg_at(alloc: Global, bytes: &[u8], at: usize, depth: u8) -> Result<(Term, usize), TermFault>
+fn arg_at(alloc: Global, bytes: &[u8], at: usize, depth: usize) -> Result<(Term, usize), TermFault>
     requires inside { at ≤ length bytes.now }
-    requires depth { depth ≤ 16 }
+    requires depth { depth ≤ MOST_DEPTH }
     ensures read { ArgAt bytes.now at depth result }
     ensures over { IfOk result (λ x. begins is_blank (drop x.1 bytes.now) ≡ false) }
 {

@@ -57,4 +57,4 @@ unit_at-returns-in_default t c = c.operand_at.ensures c.args.depth
 
 pub unit_at-returns : goal.unit_at-returns
 unit_at-returns t c =
-    unit_grouped c.requires.fine (let h = c.if-depth-ge-DEEPEST.false in omega arith) c.in-Some.ensures c.in_ok-inner.ensures.0 c.in_ok-rest.ensures.ok
+    unit_grouped c.requires.fine (let h = c.if-depth-ge-MOST_BRACKETS.false in omega arith) c.in-Some.ensures c.in_ok-inner.ensures.0 c.in_ok-rest.ensures.ok

@@ -8,7 +8,7 @@ use Rattle.rule_parser.proofs.patterns.+patterns.Goals as goal
 
 pub bracketed_at-returns : goal.bracketed_at-returns
 bracketed_at-returns t c =
-    round_bracketed c.requires.fine (let h = c.if-depth-ge-DEEPEST.false in omega arith) c.requires.first c.in_ok-inner.ensures.0 c.in_ok-rest.ensures.ok
+    round_bracketed c.requires.fine (let h = c.if-depth-ge-MOST_BRACKETS.false in omega arith) c.requires.first c.in_ok-inner.ensures.0 c.in_ok-rest.ensures.ok
 
 pub chain_at-returns-in_err-left : goal.chain_at-returns-in_err-left
 chain_at-returns-in_err-left t c =
@@ -50,11 +50,11 @@ pub without_at-returns-in_err-rest-4 : goal.without_at-returns-in_err-rest-4
 without_at-returns-in_err-rest-4 t c =
     let p = err_from_is_err_and c.from_residual-in_err-rest-4.result c.from_residual-in_err-rest-4.ensures.1 in
     rw (p.1, p.2, c.in_err-rest-4.ensures.err)
-    (without_square _ c.requires.first c.in_ok-add_part.ensures.ok c.in_ok-add_part.ensures.fine (let h = c.if-depth-ge-DEEPEST.false in omega arith) c.in_ok-inside.ensures.ok
+    (without_square _ c.requires.first c.in_ok-add_part.ensures.ok c.in_ok-add_part.ensures.fine (let h = c.if-depth-ge-MOST_BRACKETS.false in omega arith) c.in_ok-inside.ensures.ok
     c.in_ok-inner.ensures.0 c.in_ok-rest.ensures.ok c.in_ok-rest-2.ensures.ok c.in_ok-before.ensures.0 c.in_ok-rest-3.ensures.ok c.in_ok-after.ensures.0 c.in_ok-after.ensures.1 c.in_err-rest-4.ensures.lacks)
 
 pub without_at-returns : goal.without_at-returns
 without_at-returns t c =
     rw c.in_ok-new.ensures.ok
-    (part_without c.requires.first c.in_ok-add_part.ensures.ok c.in_ok-add_part.ensures.fine (let h = c.if-depth-ge-DEEPEST.false in omega arith) c.in_ok-inside.ensures.ok
+    (part_without c.requires.first c.in_ok-add_part.ensures.ok c.in_ok-add_part.ensures.fine (let h = c.if-depth-ge-MOST_BRACKETS.false in omega arith) c.in_ok-inside.ensures.ok
     c.in_ok-inner.ensures.0 c.in_ok-rest.ensures.ok c.in_ok-rest-2.ensures.ok c.in_ok-before.ensures.0 c.in_ok-rest-3.ensures.ok c.in_ok-after.ensures.0 c.in_ok-rest-4.ensures.ok)

@@ -13,18 +13,18 @@ arguments_at-returns-in_err-first t c =
 pub arguments_at-loop-more-init : goal.arguments_at-loop-more-init
 arguments_at-loop-more-init t c = terms_one c.args.kind c.in_ok-first.ensures (search (rules, c.in_ok-push.ensures.items, c.new-args.ensures.items))
 
-pub arguments_at-returns-then-len-ge-WIDEST : goal.arguments_at-returns-then-len-ge-WIDEST
-arguments_at-returns-then-len-ge-WIDEST t c =
-    rw c.limit.ensures (terms_wide c.args.kind c.loop-more.invariant (search (rules, c.if-len-ge-WIDEST.true, c.len.ensures)) c.in-Some.ensures)
+pub arguments_at-returns-then-len-ge-MOST_ARGUMENTS : goal.arguments_at-returns-then-len-ge-MOST_ARGUMENTS
+arguments_at-returns-then-len-ge-MOST_ARGUMENTS t c =
+    rw c.limit.ensures (terms_wide c.args.kind c.loop-more.invariant (search (rules, c.if-len-ge-MOST_ARGUMENTS.true, c.len.ensures)) c.in-Some.ensures)
 
 pub arguments_at-returns-in_err-arg : goal.arguments_at-returns-in_err-arg
 arguments_at-returns-in_err-arg t c =
     let p = err_from_is_err_and c.from_residual-in_err-arg.result c.from_residual-in_err-arg.ensures.1 in
-    rw (p.1, p.2) (terms_fail c.args.kind _ c.loop-more.invariant (search (rules, c.if-len-ge-WIDEST.false, c.len.ensures)) c.in-Some.ensures c.in_err-arg.ensures)
+    rw (p.1, p.2) (terms_fail c.args.kind _ c.loop-more.invariant (search (rules, c.if-len-ge-MOST_ARGUMENTS.false, c.len.ensures)) c.in-Some.ensures c.in_err-arg.ensures)
 
 pub arguments_at-loop-more-preserved : goal.arguments_at-loop-more-preserved
 arguments_at-loop-more-preserved t c =
-    terms_more c.args.kind c.loop-more.invariant (search (rules, c.if-len-ge-WIDEST.false, c.len.ensures)) c.in-Some.ensures c.in_ok-arg.ensures c.in_ok-push-2.ensures.items
+    terms_more c.args.kind c.loop-more.invariant (search (rules, c.if-len-ge-MOST_ARGUMENTS.false, c.len.ensures)) c.in-Some.ensures c.in_ok-arg.ensures c.in_ok-push-2.ensures.items
 
 pub arguments_at-returns-in_err-rest : goal.arguments_at-returns-in_err-rest
 arguments_at-returns-in_err-rest t c =
@@ -34,19 +34,19 @@ arguments_at-returns-in_err-rest t c =
 pub named_at-returns-in_default : goal.named_at-returns-in_default
 named_at-returns-in_default t c = term_symbol c.args.kind c.requires.fine c.requires.named c.in_default.ensures c.in_ok-share.ensures
 
-pub named_at-returns-then-level-ge-DEEPEST : goal.named_at-returns-then-level-ge-DEEPEST
-named_at-returns-then-level-ge-DEEPEST t c =
-    rw c.limit.ensures (compound_deep c.args.kind c.requires.fine c.if-level-ge-DEEPEST.true c.requires.named c.in-Some.ensures)
+pub named_at-returns-then-level-ge-MOST_DEPTH : goal.named_at-returns-then-level-ge-MOST_DEPTH
+named_at-returns-then-level-ge-MOST_DEPTH t c =
+    rw c.limit.ensures (compound_deep c.args.kind c.requires.fine c.if-level-ge-MOST_DEPTH.true c.requires.named c.in-Some.ensures)
 
 pub named_at-returns-in_err-args : goal.named_at-returns-in_err-args
 named_at-returns-in_err-args t c =
     let p = err_from_is_err_and c.from_residual-in_err-args.result c.from_residual-in_err-args.ensures.1 in
-    rw (p.1, p.2) (compound_fails c.args.kind _ c.requires.fine (let h = c.if-level-ge-DEEPEST.false in omega arith) c.requires.named c.in-Some.ensures c.in_err-args.ensures)
+    rw (p.1, p.2) (compound_fails c.args.kind _ c.requires.fine (let h = c.if-level-ge-MOST_DEPTH.false in omega arith) c.requires.named c.in-Some.ensures c.in_err-args.ensures)
 
 pub named_at-returns : goal.named_at-returns
 named_at-returns t c =
     rw c.in_ok-new.ensures
-    (term_compound c.args.kind c.requires.fine (let h = c.if-level-ge-DEEPEST.false in omega arith) c.requires.named c.in-Some.ensures c.in_ok-args.ensures c.in_ok-share-2.ensures)
+    (term_compound c.args.kind c.requires.fine (let h = c.if-level-ge-MOST_DEPTH.false in omega arith) c.requires.named c.in-Some.ensures c.in_ok-args.ensures c.in_ok-share-2.ensures)
 
 pub term_at-returns-in_err-term : goal.term_at-returns-in_err-term
 term_at-returns-in_err-term t c =

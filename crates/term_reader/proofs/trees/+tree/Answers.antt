@@ -13,20 +13,20 @@ pub arg_at-returns-clause-read : goal.arg_at-returns-clause-read
 arg_at-returns-clause-read t c = arg_read _ _ _ _ _ _ _ c.blanks_end-start.ensures.read c.in_ok-arg.ensures c.blanks_end.ensures.read
 
 pub args_at-loop-args-init : goal.args_at-loop-args-init
-args_at-loop-args-init t c = rw c.new-args.ensures.items (args_start _ _ _ (open_at _ _ c.requires.open) c.if-depth-ge16.false)
+args_at-loop-args-init t c = rw c.new-args.ensures.items (args_start _ _ _ (open_at _ _ c.requires.open) c.if-depth-ge-MOST_DEPTH.false)
 
 pub args_at-returns-in-Some-Last : goal.args_at-returns-in-Some-Last
 args_at-returns-in-Some-Last t c =
     rw c.in_ok-keep.ensures (args_close _ _ _ _ _ _ _ c.loop-args.invariant c.in_ok-arg.ensures.read (rw c.in-Some-Last.field-0-is at c.in-Some-Last.ensures))
 
-pub args_at-returns-then-len-ge16 : goal.args_at-returns-then-len-ge16
-args_at-returns-then-len-ge16 t c =
-    let n : 16 ≤ length (c.loop-args.args.items ++ c.in_ok-arg.arg ∷ []) = omega (arith, c.if-len-ge16.true, c.len.ensures, c.keep.new.args.ok.0, ap length c.in_ok-keep.ensures) in
+pub args_at-returns-then-len-ge-MOST_ARGUMENTS : goal.args_at-returns-then-len-ge-MOST_ARGUMENTS
+args_at-returns-then-len-ge-MOST_ARGUMENTS t c =
+    let n : 16 ≤ length (c.loop-args.args.items ++ c.in_ok-arg.arg ∷ []) = omega (arith, c.if-len-ge-MOST_ARGUMENTS.true, c.len.ensures, c.keep.new.args.ok.0, ap length c.in_ok-keep.ensures) in
     too_wide _ _ _ _ _ _ _ c.loop-args.invariant c.in_ok-arg.ensures.read (rw c.in-Some-More.field-0-is at c.in-Some-More.ensures) n
 
 pub args_at-loop-args-preserved : goal.args_at-loop-args-preserved
 args_at-loop-args-preserved t c =
-    let n : length (c.loop-args.args.items ++ c.in_ok-arg.arg ∷ []) < 16 = omega (arith, c.if-len-ge16.false, c.len.ensures, c.keep.new.args.ok, ap length c.in_ok-keep.ensures) in
+    let n : length (c.loop-args.args.items ++ c.in_ok-arg.arg ∷ []) < 16 = omega (arith, c.if-len-ge-MOST_ARGUMENTS.false, c.len.ensures, c.keep.new.args.ok, ap length c.in_ok-keep.ensures) in
     rw c.in_ok-keep.ensures (args_comma _ _ _ _ _ _ _ c.loop-args.invariant c.in_ok-arg.ensures.read (rw c.in-Some-More.field-0-is at c.in-Some-More.ensures) n)
 
 pub args_at-returns-in-None : goal.args_at-returns-in-None

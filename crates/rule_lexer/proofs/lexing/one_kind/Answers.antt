@@ -1,5 +1,0 @@
-use Rattle.rule_lexer.proofs.KindLaws.{same_kind, same_token}
-use Rattle.rule_lexer.proofs.lexing.one_kind.Goals as goal
-
-pub returns : goal.returns
-returns c = record { kind = same_kind; token = same_token }

@@ -1,8 +1,0 @@
-use Rattle.rule_tokens.proofs.OneLexing.{same_lexing, few_lexemes}
-use Rattle.rule_tokens.proofs.lexing.one_lexing.Goals as goal
-
-pub returns-clause-same : goal.returns-clause-same
-returns-clause-same c = same_lexing
-
-pub returns-clause-few : goal.returns-clause-few
-returns-clause-few c = few_lexemes
