@@ -1,7 +1,7 @@
 // Bindings, rows and the matching of atoms.
 use crate::fixtures::{atom, pattern};
 use ev_bind::{Binding, Row, cmp_rows, instance_atom, instance_of, match_atom};
-use ev_term::{Pat, Slot, Slots, Span, Term};
+use event_model::{Pat, Slot, Slots, Span, Term};
 use std::alloc::{AllocError, Global};
 use std::test::Fail;
 

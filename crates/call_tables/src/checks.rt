@@ -1,6 +1,6 @@
 // Sound files, and two that are refused.
 use crate::fixtures::rules;
-use ev_term::{Name, NameArity};
+use event_model::{Name, NameArity};
 use rule_check::{CheckFault, check};
 use std::alloc::{AllocError, Global};
 use std::test::Fail;

@@ -1,6 +1,6 @@
 // The table of conditions at its corners.
 use ev_bind::Binding;
-use ev_term::{Name, Pat, Slot, Term};
+use event_model::{Name, Pat, Slot, Term};
 use rule_ast::{Calc, Cmp, Cond};
 use std::alloc::{AllocError, Global};
 use std::test::Fail;

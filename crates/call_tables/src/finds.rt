@@ -1,6 +1,6 @@
 // The plain evaluator.
 use crate::fixtures::{atom, rules};
-use ev_term::{Detection, Event, atom_text};
+use event_model::{Detection, Event, atom_text};
 use pattern_meaning::scratch;
 use rule_check::check;
 use std::alloc::{AllocError, Global};

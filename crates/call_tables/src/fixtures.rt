@@ -4,7 +4,7 @@ ghost use Rattle.rule_ast.specs.Plain.{plain_statement, plain_rules};
 ghost use Rattle.rule_ast.specs.Shaped.{IsShaped};
 ghost use Rattle.rule_ast.specs.Shown.{shown_names};
 
-use ev_term::{Atom, Name, Pat, PatAtom, Pats, Slot, Term, Terms};
+use event_model::{Atom, Name, Pat, PatAtom, Pats, Slot, Term, Terms};
 use rule_ast::{RuleSet, Statement};
 use rule_parser::parse;
 use std::alloc::{AllocError, Global};

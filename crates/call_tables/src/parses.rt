@@ -1,5 +1,5 @@
 // Texts, with what they hold or their fault.
-use ev_term::Op;
+use event_model::Op;
 use rule_ast::{Pattern, Statement};
 use rule_parser::{ParseFault, parse};
 use std::alloc::{AllocError, Global};

@@ -1,5 +1,5 @@
 // Terms, atoms, and lines of the input.
-use ev_term::{Input, term_text};
+use event_model::{Input, term_text};
 use event_reader::{LineFault, parse_line};
 use line_reader::{Line, LineReader};
 use std::alloc::Global;

@@ -2,7 +2,7 @@
 use crate::fixtures::{atom, rules};
 use detect_writer::{change_text, end_text, ok_text, refusal_text};
 use etalis_core::Engine;
-use ev_term::{Detection, Event, Input, Judgement, Refusal, Span};
+use event_model::{Detection, Event, Input, Judgement, Refusal, Span};
 use revision::{Changes, Progress, Sign};
 use rule_check::check;
 use std::test::Fail;

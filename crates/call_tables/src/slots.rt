@@ -1,5 +1,5 @@
 // Sets of slots, and the variables of a pattern.
-use ev_term::{Slot, Slots};
+use event_model::{Slot, Slots};
 use rule_ast::{Statement, vars_of};
 use rule_parser::parse;
 use std::test::Fail;

@@ -1,6 +1,6 @@
 // Names, lists, canonical texts and orders.
 use crate::fixtures::{atom, pattern};
-use ev_term::{
+use event_model::{
     Detection, Event, Name, Span, Term, atom_text, cmp_atoms, cmp_detections, cmp_events,
     cmp_spans, cmp_terms, term_text,
 };

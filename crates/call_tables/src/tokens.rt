@@ -1,5 +1,5 @@
 // The tokens of a text.
-use ev_term::Op;
+use event_model::Op;
 use rule_ast::Cmp;
 use rule_lexer::{Terminal, lex};
 use std::test::Fail;

@@ -3,5 +3,5 @@
 
 mod lines;
 
-pub use ev_term::Refusal;
+pub use event_model::Refusal;
 pub use lines::{change_text, end_text, ok_text, refusal_text};

@@ -4,7 +4,7 @@ ghost use Rattle.std.specs.Io.{StartsWith};
 ghost use Rattle.detect_writer.specs.Signs.{sign_byte};
 ghost use Rattle.pattern_meaning.specs.Replies.{change_text, ok_text, refusal_text, end_text};
 
-use ev_term::{Detection, Refusal, atom_text};
+use event_model::{Detection, Refusal, atom_text};
 use itoa::Buffer;
 use revision::Sign;
 use std::alloc::AllocError;

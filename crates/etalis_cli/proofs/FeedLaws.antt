@@ -3,7 +3,7 @@ use Rattle.std.proofs.Common.{◌≡◌, ℕ, ◌+◌, ◌≤◌, true, false, c
 use Rattle.std.specs.Io.KnownBytes.{append_known}
 use Rattle.flow_ports.specs.Flow.{Gives, GivesPart}
 use Rattle.flow_ports.proofs.FlowLemmas.{append_known-nil, gives_more}
-use Rattle.ev_term.specs.Lines.{without_cr, ended, rest, ended_from, rest_from, ended_from-append, rest_from-append}
+use Rattle.event_model.specs.Lines.{without_cr, ended, rest, ended_from, rest_from, ended_from-append, rest_from-append}
 use Rattle.line_reader.specs.Cutting.{NoFeed}
 use Rattle.line_reader.specs.Holding.{Holds}
 use Rattle.line_reader.specs.declared.reading.LineReader.{LineReader}

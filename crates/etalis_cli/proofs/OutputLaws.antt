@@ -1,8 +1,8 @@
 -- The replies to lines, and what they leave.
 use Rattle.std.proofs.Common.{◌≡◌, ℕ, zero, suc, List, [], ◌∷◌, ◌++◌, length, map, take, refl, sym, ap, ◌∙◌}
 use Rattle.std.specs.List.{flat_map}
-use Rattle.ev_term.specs.Lines.{lines_of}
-use Rattle.ev_term.specs.Presence.{present}
+use Rattle.event_model.specs.Lines.{lines_of}
+use Rattle.event_model.specs.Presence.{present}
 use Rattle.pattern_meaning.specs.Standing.{standing}
 use Rattle.pattern_meaning.specs.Replies.{State, left_of, replies_to, reply_to_said, reply_text, end_text}
 use Rattle.pattern_meaning.specs.Left.{left_is_standing}

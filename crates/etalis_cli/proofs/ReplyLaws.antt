@@ -3,14 +3,14 @@ use Rattle.std.proofs.Common.{◌≡◌, ℕ, ◌<◌, ◌^◌, true, false, Opt
 use Rattle.std.specs.Prelude.{OnOk, Result, Ok, Err}
 use Rattle.std.specs.List.{flat_map}
 use Rattle.std.proofs.lemmas.List.Concat.{flat_map-append}
-use Rattle.ev_term.specs.Presence.{copies, judge, Says, Fails, Verdict, Taken, Refused, verdict, verdict_of, after_verdict}
-use Rattle.ev_term.specs.declared.inputs.Input.{Input}
-use Rattle.ev_term.specs.declared.inputs.Input.TheVariants.{Add, Take, Advance, Nothing}
-use Rattle.ev_term.specs.declared.inputs.Judgement.{Judgement}
-use Rattle.ev_term.specs.declared.inputs.Judgement.TheVariants as judgement
-use Rattle.ev_term.specs.declared.inputs.Refusal.{Refusal}
-use Rattle.ev_term.specs.declared.inputs.Refusal.TheVariants.{Syntax}
-use Rattle.ev_term.specs.declared.events.Detection.{Detection}
+use Rattle.event_model.specs.Presence.{copies, judge, Says, Fails, Verdict, Taken, Refused, verdict, verdict_of, after_verdict}
+use Rattle.event_model.specs.declared.inputs.Input.{Input}
+use Rattle.event_model.specs.declared.inputs.Input.TheVariants.{Add, Take, Advance, Nothing}
+use Rattle.event_model.specs.declared.inputs.Judgement.{Judgement}
+use Rattle.event_model.specs.declared.inputs.Judgement.TheVariants as judgement
+use Rattle.event_model.specs.declared.inputs.Refusal.{Refusal}
+use Rattle.event_model.specs.declared.inputs.Refusal.TheVariants.{Syntax}
+use Rattle.event_model.specs.declared.events.Detection.{Detection}
 use Rattle.rule_ast.specs.Trees.{PlainStatement}
 use Rattle.pattern_meaning.specs.Replies.{Change, change_by, reply, reply_to_input, reply_text, refusal_text, change_text, change_texts, both_texts, ok_text}
 use Rattle.revision.specs.Told.{PlainChanged, signed}

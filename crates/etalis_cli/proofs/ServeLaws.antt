@@ -6,7 +6,7 @@ use Rattle.std.proofs.Math.Seq.{take-append-add}
 use Rattle.std.specs.Io.KnownBytes.{append_known}
 use Rattle.flow_ports.specs.Flow.{Takes, Gives, GivesPart, IsAtEnd}
 use Rattle.flow_ports.proofs.FlowLemmas.{append_known-append, prepend_known-nil, gives_more, takes_more}
-use Rattle.ev_term.specs.Lines.{without_cr, ended, rest, ended_from, last_line, lines_of, ended_from-append}
+use Rattle.event_model.specs.Lines.{without_cr, ended, rest, ended_from, last_line, lines_of, ended_from-append}
 use Rattle.line_reader.specs.declared.reading.LineReader.{LineReader}
 use Rattle.pattern_meaning.specs.Replies.{State, end_text}
 use Rattle.etalis_cli.specs.Output.{Setting, start, after, reply_to, replies, out_text}

@@ -1,7 +1,7 @@
 -- A session from line to line.
 use Rattle.std.proofs.Common.{◌≡◌, ℕ, ◌+◌, ◌<◌, ◌≤◌, List, [], ◌∷◌, length, refl, sym, ap, ◌∙◌, subst, inl, arith, length-append}
-use Rattle.ev_term.specs.Presence.{Verdict, Taken, Refused, verdict, after_verdict, Fails}
-use Rattle.ev_term.specs.declared.inputs.Input.{Input}
+use Rattle.event_model.specs.Presence.{Verdict, Taken, Refused, verdict, after_verdict, Fails}
+use Rattle.event_model.specs.declared.inputs.Input.{Input}
 use Rattle.pattern_meaning.specs.Replies.{State, reply, reply_text}
 use Rattle.event_reader.specs.Machine.{heard}
 use Rattle.event_reader.proofs.LineLaws.{heard_short}

@@ -1,6 +1,6 @@
 -- A text holds no more shown names than it has bytes.
 use Rattle.std.proofs.Common.{◌≡◌, ℕ, suc, ◌+◌, ◌≤◌, List, [], ◌∷◌, ◌++◌, length, refl, sym, ap, ◌∙◌, append-nil, length-append, arith}
-use Rattle.ev_term.specs.declared.atoms.NameArity.{NameArity}
+use Rattle.event_model.specs.declared.atoms.NameArity.{NameArity}
 use Rattle.rule_ast.specs.Trees.{PlainStatement, Clause, Show}
 use Rattle.rule_lexer.specs.declared.terminals.Terminal.TheVariants as t
 use Rattle.rule_lexer.proofs.OneLexing.{few_terminals}

@@ -5,7 +5,7 @@ use Rattle.std.proofs.lemmas.List.{take-append-le, take_all, take-append-drop}
 use Rattle.std.specs.Io.KnownBytes.{append_known}
 use Rattle.flow_ports.specs.Flow.{Gives}
 use Rattle.flow_ports.proofs.FlowLemmas.{append_known-nil}
-use Rattle.ev_term.specs.Lines.{ended}
+use Rattle.event_model.specs.Lines.{ended}
 use Rattle.rule_ast.specs.Trees.{PlainStatement}
 use Rattle.etalis_cli.specs.Output.{Setting, start, replies, out_text}
 use Rattle.etalis_cli.specs.Outcome.{Served, Ends}

@@ -1,7 +1,7 @@
 -- What a piece of the input does to the state, to the part of a line that is kept, and to the output.
 use Rattle.std.specs.Prelude.{◌≡◌, ℕ, List, Option}
 use Rattle.flow_ports.specs.Flow.{Gives, GivesPart}
-use Rattle.ev_term.specs.Lines.{ended_from, rest_from}
+use Rattle.event_model.specs.Lines.{ended_from, rest_from}
 use Rattle.line_reader.specs.Cutting.{NoFeed}
 use Rattle.line_reader.specs.Holding.{Holds}
 use Rattle.line_reader.specs.declared.reading.LineReader.{LineReader}

@@ -1,7 +1,7 @@
 -- How a run over the lines of a source ends.
 use Rattle.std.specs.Prelude.{◌≡◌, ℕ, ◌+◌, ◌-◌, ◌^◌, ◌<◌, ◌≤◌, ◌⊎◌, List, [], ◌++◌, Option, Result, Ok, Err, IfSome, length, take}
 use Rattle.flow_ports.specs.Flow.{Takes, Gives, IsAtEnd}
-use Rattle.ev_term.specs.Lines.{ended, last_line}
+use Rattle.event_model.specs.Lines.{ended, last_line}
 use Rattle.line_reader.specs.declared.reading.LineReader.{LineReader}
 use Rattle.pattern_meaning.specs.Replies.{State, end_text}
 use Rattle.etalis_cli.specs.Output.{Setting, start, replies, out_text}

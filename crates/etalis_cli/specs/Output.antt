@@ -2,7 +2,7 @@
 use Rattle.std.specs.Prelude.{◌≡◌, refl, ℕ, Option, List, [], ◌∷◌, ◌++◌, length, map}
 use Rattle.std.specs.List.{flat_map}
 use Rattle.std.proofs.Common.{ap}
-use Rattle.ev_term.specs.Lines.{lines_of}
+use Rattle.event_model.specs.Lines.{lines_of}
 use Rattle.rule_ast.specs.Trees.{PlainStatement}
 use Rattle.pattern_meaning.specs.Replies as told
 use Rattle.pattern_meaning.specs.Replies.{State, after_said, after_all, reply_to_said, replies_to, reply_text, end_text}

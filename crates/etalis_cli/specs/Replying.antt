@@ -1,11 +1,11 @@
 -- What is refused, and what has no reply.
 use Rattle.std.specs.Prelude.{Bool, true, false, Option, Some, None}
-use Rattle.ev_term.specs.declared.inputs.Input.{Input}
-use Rattle.ev_term.specs.declared.inputs.Input.TheVariants.{Add, Take, Advance, Nothing}
-use Rattle.ev_term.specs.declared.inputs.Judgement.{Judgement}
-use Rattle.ev_term.specs.declared.inputs.Judgement.TheVariants as judgement
-use Rattle.ev_term.specs.declared.inputs.Refusal.{Refusal}
-use Rattle.ev_term.specs.declared.inputs.Refusal.TheVariants as refusal
+use Rattle.event_model.specs.declared.inputs.Input.{Input}
+use Rattle.event_model.specs.declared.inputs.Input.TheVariants.{Add, Take, Advance, Nothing}
+use Rattle.event_model.specs.declared.inputs.Judgement.{Judgement}
+use Rattle.event_model.specs.declared.inputs.Judgement.TheVariants as judgement
+use Rattle.event_model.specs.declared.inputs.Refusal.{Refusal}
+use Rattle.event_model.specs.declared.inputs.Refusal.TheVariants as refusal
 
 abbrev pub refusal_of : Judgement → Option Refusal
 refusal_of judgement.Fine = None

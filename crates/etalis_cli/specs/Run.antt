@@ -1,7 +1,7 @@
 -- What the top call says.
 use Rattle.std.specs.Prelude.{◌≡◌, ℕ, ◌<◌, ◌^◌, ◌-◌, ◌⊎◌, Bool, true, List, [], Option, Some, None, Result, Ok, Err, IfSome, ◌≤◌, length, take, codes, ⊤}
 use Rattle.flow_ports.specs.Flow.{Gives, GivesPart}
-use Rattle.ev_term.specs.Lines.{ended}
+use Rattle.event_model.specs.Lines.{ended}
 use Rattle.rule_ast.specs.Trees.{PlainStatement}
 use Rattle.etalis_cli.specs.Output.{Setting, start, replies, out_text}
 use Rattle.etalis_cli.specs.Words.{PlainJob}

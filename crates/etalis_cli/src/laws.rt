@@ -1,8 +1,8 @@
 // What the words of the top call come to.
 ghost use Rattle.std.specs.Prelude.{◌≡◌, ◌++◌, ℕ, List, [], length, map, take};
 ghost use Rattle.std.specs.List.{flat_map};
-ghost use Rattle.ev_term.specs.Lines.{lines_of};
-ghost use Rattle.ev_term.specs.Presence.{present};
+ghost use Rattle.event_model.specs.Lines.{lines_of};
+ghost use Rattle.event_model.specs.Presence.{present};
 ghost use Rattle.pattern_meaning.specs.Standing.{standing};
 ghost use Rattle.pattern_meaning.specs.Replies.{left_of, replies_to, reply_text, end_text};
 ghost use Rattle.event_reader.specs.Machine.{heard};

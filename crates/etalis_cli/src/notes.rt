@@ -6,7 +6,7 @@ ghost use Rattle.etalis_cli.specs.Run.{note_of, Told};
 
 use crate::refusals::Refusal;
 use crate::status::Cause;
-use ev_term::Name;
+use event_model::Name;
 use flow_ports::{Failed, Sink, write_whole};
 use itoa::Buffer;
 use rule_check::CheckFault;

@@ -1,7 +1,7 @@
 // Lines to their replies.
 ghost use Rattle.std.specs.Prelude.{◌≡◌, ◌++◌, ◌∷◌, ◌<◌, ◌≤◌, ◌^◌, ℕ, List, [], length, true, false, OnOk};
-ghost use Rattle.ev_term.specs.Lines.{without_cr};
-ghost use Rattle.ev_term.specs.Presence.{verdict, after_verdict};
+ghost use Rattle.event_model.specs.Lines.{without_cr};
+ghost use Rattle.event_model.specs.Presence.{verdict, after_verdict};
 ghost use Rattle.line_reader.specs.Cutting.{IsLine};
 ghost use Rattle.pattern_meaning.specs.Replies.{change_by, both_texts, reply, reply_to_input, reply_text};
 ghost use Rattle.event_reader.specs.Machine.{heard};
@@ -10,7 +10,7 @@ ghost use Rattle.etalis_cli.specs.Replying.{refusal_of, is_quiet};
 
 use detect_writer::{change_text, ok_text, refusal_text};
 use etalis_core::Engine;
-use ev_term::{Input, Judgement, Refusal};
+use event_model::{Input, Judgement, Refusal};
 use event_reader::{LineFault, parse_line};
 use line_reader::Line;
 use revision::Progress;

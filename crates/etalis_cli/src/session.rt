@@ -16,7 +16,7 @@ pub struct Session {
 }
 
 impl Session {
-    ghost use Rattle.ev_term.specs.Lines.{without_cr};
+    ghost use Rattle.event_model.specs.Lines.{without_cr};
     ghost use Rattle.rule_ast.specs.Plain.{plain_rules};
     ghost use Rattle.line_reader.specs.Cutting.{IsLine};
     ghost use Rattle.pattern_meaning.specs.Replies.{State};

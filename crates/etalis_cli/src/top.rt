@@ -1,7 +1,7 @@
 // The top call.
 ghost use Rattle.std.specs.Prelude.{◌≡◌, ◌^◌, ◌<◌, ◌≤◌, ◌↔◌, ◌⊎◌, ℕ, List, Some, None, true, IfSome, IfOk, OnOk, IfErr, IsErrOf, MatchOption, length};
 ghost use Rattle.flow_ports.specs.Flow.{Rose, Gives, GivesPart, IsAtEnd};
-ghost use Rattle.ev_term.specs.Lines.{ended};
+ghost use Rattle.event_model.specs.Lines.{ended};
 ghost use Rattle.rule_ast.specs.Plain.{plain_rules};
 ghost use Rattle.etalis_cli.specs.Output.{start, replies, out_text};
 ghost use Rattle.etalis_cli.specs.Outcome.{Served};

@@ -2,9 +2,9 @@
 use Rattle.std.proofs.Common.{◌≡◌, ℕ, Option, Bool, true, false, not, refl, sym, ap, ◌∙◌, subst, inl, inr}
 use Rattle.std.specs.Prelude.{◌⊎◌}
 use Rattle.std.proofs.lemmas.Bool.{true≢false}
-use Rattle.ev_term.specs.Presence.{History, settled, all_inputs, extended, settles, present, judge, IsAccepted, OneMore}
-use Rattle.ev_term.specs.declared.inputs.Input.{Input}
-use Rattle.ev_term.specs.declared.inputs.Judgement.TheVariants.{Fine}
+use Rattle.event_model.specs.Presence.{History, settled, all_inputs, extended, settles, present, judge, IsAccepted, OneMore}
+use Rattle.event_model.specs.declared.inputs.Input.{Input}
+use Rattle.event_model.specs.declared.inputs.Judgement.TheVariants.{Fine}
 use Rattle.pattern_meaning.specs.Standing.{standing}
 use Rattle.pattern_meaning.specs.Replies.{change_between, change_by}
 use Rattle.etalis_core.specs.declared.engine.Engine.{Engine}

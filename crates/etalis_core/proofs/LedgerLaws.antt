@@ -4,11 +4,11 @@ use Rattle.std.specs.Prelude.{nat_lt, max, if◌then◌else◌}
 use Rattle.ordered_lists.specs.Canon.{has, Rising-canon, has-canon, has-append, canon_one}
 use Rattle.ordered_lists.specs.Rises.{rising_sorted}
 use Rattle.ordered_lists.specs.Members.{without, has-without}
-use Rattle.ev_term.specs.declared.events.Event.{Event}
-use Rattle.ev_term.specs.EventOrder.{event_cmp, exact_events}
-use Rattle.ev_term.specs.Presence.{History, all_inputs, in_batch, extended, added, taken, occurrences, copies, present, raised, bound, judge, IsAccepted}
-use Rattle.ev_term.specs.declared.inputs.Input.{Input}
-use Rattle.ev_term.specs.declared.inputs.Judgement.TheVariants as judgement
+use Rattle.event_model.specs.declared.events.Event.{Event}
+use Rattle.event_model.specs.EventOrder.{event_cmp, exact_events}
+use Rattle.event_model.specs.Presence.{History, all_inputs, in_batch, extended, added, taken, occurrences, copies, present, raised, bound, judge, IsAccepted}
+use Rattle.event_model.specs.declared.inputs.Input.{Input}
+use Rattle.event_model.specs.declared.inputs.Judgement.TheVariants as judgement
 use Rattle.revision.specs.declared.events.EventChange.TheVariants.{Came, Went}
 use Rattle.revision.specs.Events.{event_of, changed_events, event_changes}
 use Rattle.etalis_core.specs.declared.present.Present.{Present}

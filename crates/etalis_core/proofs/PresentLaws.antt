@@ -10,11 +10,11 @@ use Rattle.std.proofs.lemmas.Bool.{true≢false}
 use Rattle.std.proofs.lemmas.Bool.Decides.{nat_tests}
 use Rattle.ordered_lists.specs.Canon.{has, canon_one}
 use Rattle.ordered_lists.specs.Rises.{rising_sorted}
-use Rattle.ev_term.specs.declared.events.Event.{Event}
-use Rattle.ev_term.specs.EventOrder.{event_cmp, exact_events}
-use Rattle.ev_term.specs.Presence.{added, taken, occurrences, copies, present}
-use Rattle.ev_term.specs.declared.inputs.Input.{Input}
-use Rattle.ev_term.specs.declared.inputs.Input.TheVariants.{Add, Take}
+use Rattle.event_model.specs.declared.events.Event.{Event}
+use Rattle.event_model.specs.EventOrder.{event_cmp, exact_events}
+use Rattle.event_model.specs.Presence.{added, taken, occurrences, copies, present}
+use Rattle.event_model.specs.declared.inputs.Input.{Input}
+use Rattle.event_model.specs.declared.inputs.Input.TheVariants.{Add, Take}
 use Rattle.etalis_core.proofs.HistoryLaws.{has-present, rising-present}
 
 -- ---- the number of an event that is put

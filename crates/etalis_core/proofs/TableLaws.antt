@@ -4,9 +4,9 @@ use Rattle.std.specs.List.{flat_map}
 use Rattle.std.specs.declared.cmp.Ordering.{Ordering}
 use Rattle.ordered_lists.specs.Canon.{Rising, Exact, has, Rising-canon, Rising-filter, canon_one}
 use Rattle.ordered_lists.specs.Members.{without, has-without}
-use Rattle.ev_term.specs.declared.events.Event.{Event}
-use Rattle.ev_term.specs.EventOrder.{detection_cmp, exact_detections}
-use Rattle.ev_term.specs.declared.events.Detection.{Detection}
+use Rattle.event_model.specs.declared.events.Event.{Event}
+use Rattle.event_model.specs.EventOrder.{detection_cmp, exact_detections}
+use Rattle.event_model.specs.declared.events.Detection.{Detection}
 use Rattle.rule_ast.specs.Trees.{PlainStatement}
 use Rattle.rule_check.specs.Sound.{rules_of}
 use Rattle.rule_check.specs.Names.{outputs}

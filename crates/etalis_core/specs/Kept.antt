@@ -3,11 +3,11 @@
 use Rattle.std.specs.Prelude.{◌≡◌, ℕ, ◌<◌, Bool, not, nat_lt, unwrap_or, if◌then◌else◌, Option, List, map}
 use Rattle.std.specs.BTreeMap.{get}
 use Rattle.ordered_lists.specs.Canon.{has}
-use Rattle.ev_term.specs.declared.events.Event.{Event}
-use Rattle.ev_term.specs.EventOrder.{event_cmp}
-use Rattle.ev_term.specs.Presence.{History, all_inputs, in_batch, copies, present, bound}
-use Rattle.ev_term.specs.declared.inputs.Input.{Input}
-use Rattle.ev_term.specs.declared.inputs.Input.TheVariants.{Add, Take, Advance, Nothing, Begin, Commit}
+use Rattle.event_model.specs.declared.events.Event.{Event}
+use Rattle.event_model.specs.EventOrder.{event_cmp}
+use Rattle.event_model.specs.Presence.{History, all_inputs, in_batch, copies, present, bound}
+use Rattle.event_model.specs.declared.inputs.Input.{Input}
+use Rattle.event_model.specs.declared.inputs.Input.TheVariants.{Add, Take, Advance, Nothing, Begin, Commit}
 use Rattle.revision.specs.declared.events.EventChange.{EventChange}
 use Rattle.revision.specs.declared.events.EventChange.TheVariants.{Came, Went}
 use Rattle.revision.specs.Events.{event_changes}

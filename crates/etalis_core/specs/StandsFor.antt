@@ -1,8 +1,8 @@
 -- What an engine stands for and works from: it keeps what a history comes to, and not the history.
 use Rattle.std.specs.Prelude.{◌≡◌, ℕ, Bool, true, false, Option, List}
-use Rattle.ev_term.specs.Presence.{History, settled, all_inputs, settles, extended, copies, present, judge, IsAccepted}
-use Rattle.ev_term.specs.declared.inputs.Input.{Input}
-use Rattle.ev_term.specs.declared.inputs.Judgement.TheVariants.{Fine}
+use Rattle.event_model.specs.Presence.{History, settled, all_inputs, settles, extended, copies, present, judge, IsAccepted}
+use Rattle.event_model.specs.declared.inputs.Input.{Input}
+use Rattle.event_model.specs.declared.inputs.Judgement.TheVariants.{Fine}
 use Rattle.rule_ast.specs.Trees.{PlainStatement}
 use Rattle.rule_ast.specs.Plain.{plain_rules}
 use Rattle.pattern_meaning.specs.Standing.{standing}

@@ -2,7 +2,7 @@
 use crate::faults::{EngineFault, StartFault};
 use crate::ledger::Ledger;
 use crate::table::Table;
-use ev_term::{Input, Judgement};
+use event_model::{Input, Judgement};
 use revision::{Changes, Progress};
 use rule_check::Checked;
 use std::alloc::Global;
@@ -47,9 +47,9 @@ pub struct Engine {
 
 impl Engine {
     ghost use Rattle.std.specs.Prelude.{◌≡◌, ◌⊎◌, ◌↔◌, ◌<◌, [], true, false, IfSome, IfOk, OnOk, OnErr, IsErrOf};
-    ghost use Rattle.ev_term.specs.declared.events.TheConstants.{TIME_LIMIT};
-    ghost use Rattle.ev_term.specs.declared.inputs.Input.{Input};
-    ghost use Rattle.ev_term.specs.Presence.{History, no_history, settled, in_batch, extended, settles, bound, judge};
+    ghost use Rattle.event_model.specs.declared.events.TheConstants.{TIME_LIMIT};
+    ghost use Rattle.event_model.specs.declared.inputs.Input.{Input};
+    ghost use Rattle.event_model.specs.Presence.{History, no_history, settled, in_batch, extended, settles, bound, judge};
     ghost use Rattle.rule_ast.specs.Plain.{plain_rules};
     ghost use Rattle.pattern_meaning.specs.Replies.{change_by};
     ghost use Rattle.revision.specs.Told.{changes_left, signed};

@@ -1,8 +1,8 @@
 // How an input moves the bound, and whether it is misplaced, or below the bound.
 ghost use Rattle.std.specs.Prelude.{◌≡◌};
-ghost use Rattle.ev_term.specs.Presence.{History, extended, in_batch, raised, is_below, is_misplaced};
+ghost use Rattle.event_model.specs.Presence.{History, extended, in_batch, raised, is_below, is_misplaced};
 
-use ev_term::Input;
+use event_model::Input;
 
 /// How far an input raises the bound: an event to its time less the lateness, where one is given.
 #[tactic(auto, using(crate::proofs::HistoryLaws::raised_more))]

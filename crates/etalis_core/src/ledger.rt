@@ -1,7 +1,7 @@
 // What is kept of the inputs: the events that are present, the bounds, and whether a batch is open.
 use crate::judging::{is_below, is_in_batch_after, is_misplaced, raised};
 use crate::present::Present;
-use ev_term::{Event, Input, Judgement};
+use event_model::{Event, Input, Judgement};
 use std::alloc::{AllocError, Global};
 
 /// What the inputs come to, those of an open batch too. It knows how the next input is judged, and how the events that are present
@@ -16,9 +16,9 @@ pub struct Ledger {
 
 impl Ledger {
     ghost use Rattle.std.specs.Prelude.{◌≡◌, ◌↔◌, ℕ, Option, List, [], false, OnOk, OnErr, IfOk};
-    ghost use Rattle.ev_term.specs.declared.inputs.Input.{Input};
-    ghost use Rattle.ev_term.specs.declared.inputs.Judgement.TheVariants.{Fine};
-    ghost use Rattle.ev_term.specs.Presence.{History, no_history, settled, all_inputs, extended, in_batch, bound, present, judge, IsAccepted};
+    ghost use Rattle.event_model.specs.declared.inputs.Input.{Input};
+    ghost use Rattle.event_model.specs.declared.inputs.Judgement.TheVariants.{Fine};
+    ghost use Rattle.event_model.specs.Presence.{History, no_history, settled, all_inputs, extended, in_batch, bound, present, judge, IsAccepted};
     ghost use Rattle.etalis_core.specs.Kept.{number_of, HasRoom, IsLedgerOf};
 
     /// Of no inputs.

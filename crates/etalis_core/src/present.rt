@@ -5,10 +5,10 @@ ghost use Rattle.std.specs.BTreeMap.{get};
 ghost use Rattle.std.specs.BTreeSet.{BTreeSet, IsOrdered};
 ghost use Rattle.std.proofs.Props.{props};
 ghost use Rattle.ordered_lists.specs.Canon.{has};
-ghost use Rattle.ev_term.specs.declared.events.Event.{Event};
-ghost use Rattle.ev_term.specs.EventOrder.{event_cmp};
+ghost use Rattle.event_model.specs.declared.events.Event.{Event};
+ghost use Rattle.event_model.specs.EventOrder.{event_cmp};
 
-use ev_term::{Event, Input};
+use event_model::{Event, Input};
 use std::alloc::{AllocError, Global};
 use std::collections::{BTreeMap, BTreeSet};
 
@@ -40,8 +40,8 @@ fn flip(events: &mut BTreeSet<Event>, event: &Event) -> Result<(), AllocError>
 
 impl Present {
     ghost use Rattle.std.specs.Prelude.{◌+◌, ◌-◌, ◌↔◌, List, [], ◌∷◌, IfOk, true, false};
-    ghost use Rattle.ev_term.specs.Presence.{added, taken, occurrences, copies, present, is_absent};
-    ghost use Rattle.ev_term.specs.declared.inputs.Input.{Input};
+    ghost use Rattle.event_model.specs.Presence.{added, taken, occurrences, copies, present, is_absent};
+    ghost use Rattle.event_model.specs.declared.inputs.Input.{Input};
     ghost use Rattle.etalis_core.specs.Kept.{number_of, was_kept, HasRoom};
 
     /// No events, and no changes.

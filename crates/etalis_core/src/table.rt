@@ -1,10 +1,10 @@
 // What stands, and what changed of it.
 ghost use Rattle.std.specs.Prelude.{◌≡◌, true, IfOk};
 ghost use Rattle.ordered_lists.specs.Rises.{rises};
-ghost use Rattle.ev_term.specs.EventOrder.{detection_cmp};
+ghost use Rattle.event_model.specs.EventOrder.{detection_cmp};
 
 use crate::ledger::Ledger;
-use ev_term::{Detection, Event};
+use event_model::{Detection, Event};
 use ordered_lists::push_all_missing;
 use pattern_meaning::scratch;
 use rule_check::Checked;
@@ -31,8 +31,8 @@ fn share(detection: &Detection) -> Result<Detection, AllocError>
 
 impl Table {
     ghost use Rattle.std.specs.Prelude.{ℕ, Option, List, [], OnOk};
-    ghost use Rattle.ev_term.specs.Presence.{History, all_inputs};
-    ghost use Rattle.ev_term.specs.declared.inputs.Input.{Input};
+    ghost use Rattle.event_model.specs.Presence.{History, all_inputs};
+    ghost use Rattle.event_model.specs.declared.inputs.Input.{Input};
     ghost use Rattle.rule_ast.specs.Plain.{plain_rules};
     ghost use Rattle.pattern_meaning.specs.Standing.{standing};
     ghost use Rattle.pattern_meaning.specs.Replies.{change_between};

@@ -10,8 +10,8 @@ use Rattle.std.proofs.lemmas.Bool.{true≢false, and_parts, and_from, or_cases, 
 use Rattle.std.proofs.lemmas.List.Folds.{list_all-append}
 use Rattle.ordered_lists.specs.Canon.{place, placed, has, AllAbove, Rising, canon_itself}
 use Rattle.ordered_lists.specs.Members.{canon-snoc}
-use Rattle.ev_term.specs.TermOrder.{term_cmp, exact_terms}
-use Rattle.ev_term.specs.declared.terms.Term.{Term}
+use Rattle.event_model.specs.TermOrder.{term_cmp, exact_terms}
+use Rattle.event_model.specs.declared.terms.Term.{Term}
 use Rattle.ev_bind.specs.Bindings.{Pair, Pairs, pair_cmp, alike, single, join, IsBinding, value_at, exact_pairs, single_within}
 
 -- the pairs with one more at its place; none where its slot has another value

@@ -14,18 +14,18 @@ use Rattle.std.proofs.lemmas.Slice.Eq.{bytes_eq-Decides}
 use Rattle.std.proofs.lemmas.Bool.Decides.{Decides-int_eq}
 use Rattle.ordered_lists.specs.Canon.{canon, has, has-canon}
 use Rattle.ordered_lists.specs.Members.{list_any-canon, list_any-map}
-use Rattle.ev_term.specs.TermOrder.{term_cmp, exact_terms}
-use Rattle.ev_term.specs.declared.terms.Term.{Term, out-Term, roll-Term, roll-out-Term}
-use Rattle.ev_term.specs.declared.terms.Term.TheOpen.{Term-F}
-use Rattle.ev_term.specs.declared.terms.Term.TheOpen.Term-F.{Num as TNum, Sym as TSym, Text as TText, Comp as TComp}
-use Rattle.ev_term.specs.declared.terms.Term.TheVariants as made
-use Rattle.ev_term.specs.declared.terms.Pat.{Pat, roll-Pat, out-roll-Pat}
-use Rattle.ev_term.specs.declared.terms.Pat.TheOpen.{Pat-F}
-use Rattle.ev_term.specs.declared.terms.Pat.TheOpen.Pat-F.{Var, Any, Num, Sym, Text, Comp}
-use Rattle.ev_term.specs.declared.terms.Pat.TheFolds.{map-Pat}
-use Rattle.ev_term.specs.declared.atoms.Atom.{Atom}
-use Rattle.ev_term.specs.declared.atoms.PatAtom.{PatAtom}
-use Rattle.ev_term.proofs.Layers.{Each, args_of, by_layers}
+use Rattle.event_model.specs.TermOrder.{term_cmp, exact_terms}
+use Rattle.event_model.specs.declared.terms.Term.{Term, out-Term, roll-Term, roll-out-Term}
+use Rattle.event_model.specs.declared.terms.Term.TheOpen.{Term-F}
+use Rattle.event_model.specs.declared.terms.Term.TheOpen.Term-F.{Num as TNum, Sym as TSym, Text as TText, Comp as TComp}
+use Rattle.event_model.specs.declared.terms.Term.TheVariants as made
+use Rattle.event_model.specs.declared.terms.Pat.{Pat, roll-Pat, out-roll-Pat}
+use Rattle.event_model.specs.declared.terms.Pat.TheOpen.{Pat-F}
+use Rattle.event_model.specs.declared.terms.Pat.TheOpen.Pat-F.{Var, Any, Num, Sym, Text, Comp}
+use Rattle.event_model.specs.declared.terms.Pat.TheFolds.{map-Pat}
+use Rattle.event_model.specs.declared.atoms.Atom.{Atom}
+use Rattle.event_model.specs.declared.atoms.PatAtom.{PatAtom}
+use Rattle.event_model.proofs.Layers.{Each, args_of, by_layers}
 use Rattle.ev_bind.specs.Bindings.{Pair, Pairs, pair_cmp, alike, single, union_of, IsBinding, value_at, exact_pairs, all_has, has_all, union_same, union_of-itself, IsBinding-canon}
 use Rattle.ev_bind.specs.Matching.{with_pairs, pairs_of_all, number_pairs, symbol_pairs, text_pairs, compound_pairs, pairs_step, pairs_of, pairs_at, match_of}
 use Rattle.ev_bind.specs.Fits.{same, is_value, all_fit, is_compound, fits_step, fits, fits_at, occurs_step, occurs, occurs_at, Matches}

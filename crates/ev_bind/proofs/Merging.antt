@@ -5,10 +5,10 @@ use Rattle.std.specs.List.{list_all}
 use Rattle.std.proofs.lemmas.List.{drop_more, drop_all}
 use Rattle.std.proofs.lemmas.Bool.{true≢false}
 use Rattle.ordered_lists.specs.Canon.{canon, has, has-append}
-use Rattle.ev_term.specs.declared.terms.Term.{Term}
+use Rattle.event_model.specs.declared.terms.Term.{Term}
 use Rattle.ev_bind.specs.Bindings.{Pair, Pairs, pair_cmp, single, union_of, join, IsBinding, exact_pairs, union_same, union_of-itself, join_twice, join_comm, IsBinding-canon, all_has}
 use Rattle.ev_bind.specs.Matching.{with_pairs, pairs_of, pairs_of_all}
-use Rattle.ev_term.specs.declared.terms.Pat.{Pat}
+use Rattle.event_model.specs.declared.terms.Pat.{Pat}
 
 -- a union is a binding
 pub is_union : (xs d : Pairs) → union_of xs ≡ Some d → IsBinding d

@@ -5,8 +5,8 @@ use Rattle.std.specs.List.{list_all}
 use Rattle.std.specs.Ordering.{is_eq}
 use Rattle.std.proofs.lemmas.Bool.{true≢false, or_cases, or_left, or_right, not_from_false, cases_eq, ne_eqb, eq-eqb}
 use Rattle.ordered_lists.specs.Canon.{canon, has, has-canon, has-append}
-use Rattle.ev_term.specs.TermOrder.{term_cmp, exact_terms}
-use Rattle.ev_term.specs.declared.terms.Term.{Term}
+use Rattle.event_model.specs.TermOrder.{term_cmp, exact_terms}
+use Rattle.event_model.specs.declared.terms.Term.{Term}
 use Rattle.ev_bind.specs.Bindings.{Pair, Pairs, pair_cmp, alike, single, join, IsBinding, value_at, exact_pairs, has_all, IsBinding-canon}
 use Rattle.ev_bind.specs.Fits.{is_value}
 use Rattle.ev_bind.proofs.Adding.{tie, climbs_of}

@@ -12,8 +12,8 @@ use Rattle.std.proofs.Common.{ap, sym, ◌∙◌, append_assoc}
 use Rattle.std.proofs.lemmas.Bool.{true≢false, and_parts}
 use Rattle.ordered_lists.specs.Canon.{canon, has, Rising, Exact, Rising-canon, canon_same, has-canon, has-append, canon_itself}
 use Rattle.ordered_lists.specs.Orders.{exact_numbers, pair_order, exact_pair_order}
-use Rattle.ev_term.specs.TermOrder.{term_cmp, exact_terms}
-use Rattle.ev_term.specs.declared.terms.Term.{Term}
+use Rattle.event_model.specs.TermOrder.{term_cmp, exact_terms}
+use Rattle.event_model.specs.declared.terms.Term.{Term}
 
 -- a slot and its value
 abbrev pub Pair : Type 0

@@ -11,7 +11,7 @@ use Rattle.std.proofs.Common.{ap, sym, ◌∙◌}
 use Rattle.std.proofs.lemmas.Bool.{true≢false, and_parts}
 use Rattle.ordered_lists.specs.Canon.{Exact, Rising-filter, has-filter, has}
 use Rattle.ordered_lists.specs.Orders.{exact_lists}
-use Rattle.ev_term.specs.SlotSets.{slot_in}
+use Rattle.event_model.specs.SlotSets.{slot_in}
 use Rattle.ev_bind.specs.Bindings.{Pairs, pair_cmp, exact_pairs, IsBinding, single_within}
 
 -- the pairs whose slot is in the set

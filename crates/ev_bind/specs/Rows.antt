@@ -4,7 +4,7 @@ use Rattle.std.specs.Cmp.Lexicographic.{slice_cmp}
 use Rattle.std.specs.declared.cmp.Ordering.{Ordering}
 use Rattle.ordered_lists.specs.Canon.{Exact}
 use Rattle.ordered_lists.specs.Orders.{exact_then, exact_lists}
-use Rattle.ev_term.specs.EventOrder.{span_cmp, exact_spans}
+use Rattle.event_model.specs.EventOrder.{span_cmp, exact_spans}
 use Rattle.ev_bind.specs.Bindings.{pair_cmp, exact_pairs}
 use Rattle.ev_bind.specs.declared.rows.Row.{Row}
 

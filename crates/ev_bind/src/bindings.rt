@@ -7,7 +7,7 @@ ghost use Rattle.ev_bind.specs.Projections.{project};
 
 use crate::pairs::{add_pair, add_pairs, copy_pairs, has_pairs, same_terms, value_of};
 use crate::projections::{all_in, copy_in, same_in};
-use ev_term::{Shared, Slot, Slots, Term};
+use event_model::{Shared, Slot, Slots, Term};
 use std::alloc::{AllocError, Global};
 use std::marker::Model;
 
@@ -21,7 +21,7 @@ pub struct Binding {
 impl Model for Binding {
     ghost use Rattle.std.specs.Prelude.{unwrap_or, []};
     ghost use Rattle.std.specs.Coded.{codes};
-    ghost use Rattle.ev_term.specs.contracts.terms.Term as term;
+    ghost use Rattle.event_model.specs.contracts.terms.Term as term;
     ghost use Rattle.ev_bind.specs.Bindings.{Pairs, IsBinding};
 
     ghost Value = { Pairs };

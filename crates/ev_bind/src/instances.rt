@@ -3,7 +3,7 @@ ghost use Rattle.std.specs.Prelude.{◌≡◌, map, IfOk};
 ghost use Rattle.ev_bind.specs.Matching.{instance};
 
 use crate::bindings::Binding;
-use ev_term::{Atom, Pat, PatAtom, Shared, Term};
+use event_model::{Atom, Pat, PatAtom, Shared, Term};
 use std::alloc::{AllocError, Global};
 
 /// The argument with its variables' values. A variable that the binding doesn't hold, and `_`, are 0.

@@ -1,8 +1,8 @@
 // What the definitions that contracts cite come to, in other words.
 ghost use Rattle.std.specs.Prelude.{◌≡◌, ◌↔◌, ◌⊎◌, ◌∷◌, [], ℕ, IsSome};
-ghost use Rattle.ev_term.specs.declared.atoms.Atom.{Atom};
-ghost use Rattle.ev_term.specs.declared.atoms.PatAtom.{PatAtom};
-ghost use Rattle.ev_term.specs.declared.terms.Term.{Term};
+ghost use Rattle.event_model.specs.declared.atoms.Atom.{Atom};
+ghost use Rattle.event_model.specs.declared.atoms.PatAtom.{PatAtom};
+ghost use Rattle.event_model.specs.declared.terms.Term.{Term};
 ghost use Rattle.ev_bind.specs.Bindings.{Pairs, IsBinding, join, value_at};
 ghost use Rattle.ev_bind.specs.Matching.{match_of};
 ghost use Rattle.ev_bind.specs.Fits.{Matches};

@@ -1,12 +1,12 @@
 // The matching of atoms.
 ghost use Rattle.std.specs.Prelude.{◌≡◌, [], map, option_and_then, OnOk, IfOk, if◌then◌else◌};
-ghost use Rattle.ev_term.specs.declared.terms.Term.{out-Term};
+ghost use Rattle.event_model.specs.declared.terms.Term.{out-Term};
 ghost use Rattle.ev_bind.specs.Bindings.{IsBinding, join};
 ghost use Rattle.ev_bind.specs.Matching.{pairs_of, pairs_of_all, number_pairs, symbol_pairs, text_pairs, match_of};
 
 use crate::bindings::Binding;
 use crate::pairs::add_pair;
-use ev_term::{Atom, Name, Pat, PatAtom, Slot, Term};
+use event_model::{Atom, Name, Pat, PatAtom, Slot, Term};
 use std::alloc::{AllocError, Global};
 
 #[tactic(auto, using(crate::specs::Matching::outs))]

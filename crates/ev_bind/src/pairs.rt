@@ -4,10 +4,10 @@ ghost use Rattle.std.specs.Option.{option_copied};
 ghost use Rattle.std.specs.Ordering.{is_eq};
 ghost use Rattle.std.specs.List.{prefix_len, list_all};
 ghost use Rattle.ordered_lists.specs.Canon.{has};
-ghost use Rattle.ev_term.specs.TermOrder.{term_cmp};
+ghost use Rattle.event_model.specs.TermOrder.{term_cmp};
 ghost use Rattle.ev_bind.specs.Bindings.{IsBinding, join, value_at, pair_cmp};
 
-use ev_term::{Slot, Term, cmp_terms};
+use event_model::{Slot, Term, cmp_terms};
 use std::alloc::{AllocError, Global};
 use std::cmp::Ordering;
 

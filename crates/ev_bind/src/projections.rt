@@ -1,11 +1,11 @@
 // Pairs cut to a set of slots.
 ghost use Rattle.std.specs.Prelude.{◌≡◌, ◌+◌, ◌≤◌, drop, length, IfOk};
 ghost use Rattle.std.specs.List.{list_all, position_or_len};
-ghost use Rattle.ev_term.specs.SlotSets.{slot_in};
+ghost use Rattle.event_model.specs.SlotSets.{slot_in};
 ghost use Rattle.ev_bind.specs.Projections.{project, same_pairs};
 
 use crate::pairs::cmp_pair;
-use ev_term::{Slot, Slots, Term};
+use event_model::{Slot, Slots, Term};
 use std::alloc::{AllocError, Global};
 
 // Whether each slot is in the set.

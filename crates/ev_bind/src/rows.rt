@@ -10,7 +10,7 @@ ghost use Rattle.ev_bind.specs.Rows.{row_cmp, exact_rows};
 
 use crate::bindings::Binding;
 use crate::pairs::cmp_pair;
-use ev_term::{Slot, Span, Term, cmp_spans};
+use event_model::{Slot, Span, Term, cmp_spans};
 use std::alloc::AllocError;
 use std::cmp::Ordering;
 

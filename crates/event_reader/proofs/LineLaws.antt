@@ -4,11 +4,11 @@ use Rattle.std.specs.Prelude.{nat_le}
 use Rattle.std.specs.List.{list_any, list_all}
 use Rattle.std.proofs.lemmas.Bool.{leb-true, leb-false, le-leb, lt-leb, cond-true, cond-false, eqb-true, and_parts}
 use Rattle.std.proofs.lemmas.List.Folds.{list_any-append}
-use Rattle.ev_term.specs.Bytes.{stop}
-use Rattle.ev_term.specs.Presence.{Said, Says, Fails}
-use Rattle.ev_term.specs.declared.atoms.Atom.{Atom}
-use Rattle.ev_term.specs.declared.inputs.TheConstants.{MOST_LINE_BYTES}
-use Rattle.ev_term.specs.declared.inputs.Input.{Input}
+use Rattle.event_model.specs.Bytes.{stop}
+use Rattle.event_model.specs.Presence.{Said, Says, Fails}
+use Rattle.event_model.specs.declared.atoms.Atom.{Atom}
+use Rattle.event_model.specs.declared.inputs.TheConstants.{MOST_LINE_BYTES}
+use Rattle.event_model.specs.declared.inputs.Input.{Input}
 use Rattle.event_reader.specs.declared.faults.LineFault.{LineFault}
 use Rattle.event_reader.specs.declared.faults.LineFault.TheVariants as fault
 use Rattle.event_reader.specs.Reads.{Heard, LineRead, line_said}

@@ -1,11 +1,11 @@
 -- What the machine makes of the pieces of a line.
 use Rattle.std.proofs.Common.{◌≡◌, ℕ, ◌+◌, ◌<◌, ◌≤◌, ◌==◌, ◌⊎◌, inl, inr, Bool, true, false, cond, List, [], ◌∷◌, length, drop, Option, Some, None, option_map, Result, Ok, Err, refl, sym, ap, ◌∙◌, arith, subst, length-drop}
 use Rattle.std.proofs.lemmas.Bool.{eqb-true, eq-eqb}
-use Rattle.ev_term.specs.Bytes.{stop}
-use Rattle.ev_term.specs.Spans.{PlainSpan}
-use Rattle.ev_term.specs.Presence.{Says, Fails}
-use Rattle.ev_term.specs.declared.atoms.Atom.{Atom}
-use Rattle.ev_term.specs.declared.inputs.Input.TheVariants.{Nothing}
+use Rattle.event_model.specs.Bytes.{stop}
+use Rattle.event_model.specs.Spans.{PlainSpan}
+use Rattle.event_model.specs.Presence.{Says, Fails}
+use Rattle.event_model.specs.declared.atoms.Atom.{Atom}
+use Rattle.event_model.specs.declared.inputs.Input.TheVariants.{Nothing}
 use Rattle.term_reader.specs.declared.faults.TermFault.{TermFault}
 use Rattle.term_reader.specs.declared.faults.TermFault.TheVariants as of_term
 use Rattle.term_reader.specs.declared.signs.Sign.TheVariants.{Space, Tab}

@@ -5,9 +5,9 @@ use Rattle.std.specs.List.{list_all}
 use Rattle.std.specs.Char.{digit_value}
 use Rattle.std.specs.Str.Parse.{digits_value_after}
 use Rattle.std.proofs.lemmas.Bool.{and_from, eqb-true, ltb-true}
-use Rattle.ev_term.specs.Bytes.{bang, stop}
-use Rattle.ev_term.specs.declared.atoms.Atom.{Atom}
-use Rattle.ev_term.specs.declared.events.TheConstants.{TIME_LIMIT}
+use Rattle.event_model.specs.Bytes.{bang, stop}
+use Rattle.event_model.specs.declared.atoms.Atom.{Atom}
+use Rattle.event_model.specs.declared.events.TheConstants.{TIME_LIMIT}
 use Rattle.term_reader.specs.Signs.{sign_of, signs}
 use Rattle.term_reader.specs.Grammar.{Tree, Wanted.AnAtom, atom_value}
 use Rattle.term_reader.specs.Machine as atom

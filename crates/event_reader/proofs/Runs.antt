@@ -4,9 +4,9 @@ use Rattle.std.specs.List.{list_all}
 use Rattle.std.specs.Char.{digit_value}
 use Rattle.std.specs.Str.Parse.{digits_value_after}
 use Rattle.std.proofs.lemmas.Bool.{and_parts, lt-ltb, eq-eqb}
-use Rattle.ev_term.specs.Bytes.{bang, hash, stop}
-use Rattle.ev_term.specs.declared.atoms.Atom.{Atom}
-use Rattle.ev_term.specs.declared.events.TheConstants.{TIME_LIMIT}
+use Rattle.event_model.specs.Bytes.{bang, hash, stop}
+use Rattle.event_model.specs.declared.atoms.Atom.{Atom}
+use Rattle.event_model.specs.declared.events.TheConstants.{TIME_LIMIT}
 use Rattle.term_reader.specs.declared.signs.Sign.{Sign}
 use Rattle.term_reader.specs.declared.signs.Sign.TheVariants.{Space, Tab}
 use Rattle.term_reader.specs.Signs.{sign_of, signs}

@@ -1,9 +1,9 @@
 -- Where the form of a line breaks off, and that each state that the machine comes to can be completed.
 use Rattle.std.proofs.Common.{◌≡◌, ℕ, ◌+◌, ◌*◌, ◌≤◌, ◌==◌, Bool, true, false, cond, List, [], ◌∷◌, ◌++◌, length, take, Option, Some, None, MatchOption, option_and_then, option_map, refl, sym, ap, ◌∙◌, arith, append-nil, zero, suc}
 use Rattle.std.specs.Prelude.{nat_lt}
-use Rattle.ev_term.specs.Bytes.{space, digit_0}
-use Rattle.ev_term.specs.declared.atoms.Atom.{Atom}
-use Rattle.ev_term.specs.declared.events.TheConstants.{TIME_LIMIT}
+use Rattle.event_model.specs.Bytes.{space, digit_0}
+use Rattle.event_model.specs.declared.atoms.Atom.{Atom}
+use Rattle.event_model.specs.declared.events.TheConstants.{TIME_LIMIT}
 use Rattle.term_reader.specs.Signs.{sign_of, signs}
 use Rattle.term_reader.specs.Grammar.{Tree, Wanted.AnAtom, atom_value}
 use Rattle.term_reader.specs.Machine as atom

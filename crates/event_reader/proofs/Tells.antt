@@ -5,7 +5,7 @@ use Rattle.std.specs.Char.{digit_value}
 use Rattle.std.specs.Int.{IsInRange}
 use Rattle.std.proofs.lemmas.Bool.{leb-true, eqb-true, and_parts, or_cases, cond-true, cond-false, ne_eqb, or_from}
 use Rattle.std.proofs.lemmas.Str.{digit_value_digit}
-use Rattle.ev_term.specs.Bytes.{plus, minus, bang, hash, stop}
+use Rattle.event_model.specs.Bytes.{plus, minus, bang, hash, stop}
 use Rattle.term_reader.specs.declared.signs.Sign.TheVariants.{Space, Tab}
 use Rattle.term_reader.specs.Signs.{sign_of}
 use Rattle.event_reader.specs.declared.parts.Part.{Part}

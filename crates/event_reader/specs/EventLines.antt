@@ -3,14 +3,14 @@ use Rattle.std.specs.Prelude.{◌≡◌, ◌≢◌, ◌⊎◌, ℕ, ◌<◌, ◌
 use Rattle.std.specs.List.{list_all}
 use Rattle.std.specs.Option.{option_map}
 use Rattle.std.specs.Str.Parse.{digits_value}
-use Rattle.ev_term.specs.Bytes.{tab, space, bang, hash, plus, minus, stop, digit_0, digit_9}
-use Rattle.ev_term.specs.Spans.{PlainSpan, instant}
-use Rattle.ev_term.specs.Presence.{Said, Says, Fails}
-use Rattle.ev_term.specs.declared.atoms.Atom.{Atom}
-use Rattle.ev_term.specs.declared.events.TheConstants.{TIME_LIMIT}
-use Rattle.ev_term.specs.declared.inputs.TheConstants.{MOST_LINE_BYTES}
-use Rattle.ev_term.specs.declared.inputs.Input.{Input}
-use Rattle.ev_term.specs.declared.inputs.Input.TheVariants.{Add, Take, Advance, Nothing, Begin, Commit}
+use Rattle.event_model.specs.Bytes.{tab, space, bang, hash, plus, minus, stop, digit_0, digit_9}
+use Rattle.event_model.specs.Spans.{PlainSpan, instant}
+use Rattle.event_model.specs.Presence.{Said, Says, Fails}
+use Rattle.event_model.specs.declared.atoms.Atom.{Atom}
+use Rattle.event_model.specs.declared.events.TheConstants.{TIME_LIMIT}
+use Rattle.event_model.specs.declared.inputs.TheConstants.{MOST_LINE_BYTES}
+use Rattle.event_model.specs.declared.inputs.Input.{Input}
+use Rattle.event_model.specs.declared.inputs.Input.TheVariants.{Add, Take, Advance, Nothing, Begin, Commit}
 use Rattle.term_reader.specs.Grammar as grammar
 use Rattle.term_reader.specs.Grammar.{Tree, Wanted.AnAtom, atom_value, Fine}
 use Rattle.term_reader.specs.Signs.{signs}

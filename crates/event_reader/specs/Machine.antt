@@ -1,11 +1,11 @@
 -- A machine that reads a line byte by byte, and what a line says by it.
 use Rattle.std.specs.Prelude.{ℕ, ◌+◌, ◌*◌, ◌-◌, ◌<◌, ◌==◌, true, nat_lt, nat_le, cond, if◌then◌else◌, List, [], ◌∷◌, length, Option, Some, None}
 use Rattle.std.specs.Option.{option_map}
-use Rattle.ev_term.specs.Bytes.{bang, hash, plus, minus, stop, digit_0}
-use Rattle.ev_term.specs.Presence.{Said, Says, Fails}
-use Rattle.ev_term.specs.declared.events.TheConstants.{TIME_LIMIT}
-use Rattle.ev_term.specs.declared.inputs.TheConstants.{MOST_LINE_BYTES}
-use Rattle.ev_term.specs.declared.inputs.Input.{Input}
+use Rattle.event_model.specs.Bytes.{bang, hash, plus, minus, stop, digit_0}
+use Rattle.event_model.specs.Presence.{Said, Says, Fails}
+use Rattle.event_model.specs.declared.events.TheConstants.{TIME_LIMIT}
+use Rattle.event_model.specs.declared.inputs.TheConstants.{MOST_LINE_BYTES}
+use Rattle.event_model.specs.declared.inputs.Input.{Input}
 use Rattle.term_reader.specs.Signs.{sign_of}
 use Rattle.term_reader.specs.Grammar.{Tree, atom_value}
 use Rattle.term_reader.specs.Machine as atom

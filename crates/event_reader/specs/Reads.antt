@@ -1,11 +1,11 @@
 -- What a reading function gives, in every state of the machine in which it is called.
 use Rattle.std.specs.Prelude.{◌≡◌, ℕ, ◌+◌, ◌<◌, ◌≤◌, ◌==◌, Bool, true, false, List, [], ◌∷◌, length, drop, Option, Some, None, Result, Ok, Err}
-use Rattle.ev_term.specs.Spans.{PlainSpan}
-use Rattle.ev_term.specs.Presence.{Said, Says, Fails}
-use Rattle.ev_term.specs.declared.atoms.Atom.{Atom}
-use Rattle.ev_term.specs.declared.events.Event.{Event}
-use Rattle.ev_term.specs.declared.events.TheConstants.{TIME_LIMIT}
-use Rattle.ev_term.specs.declared.inputs.Input.{Input}
+use Rattle.event_model.specs.Spans.{PlainSpan}
+use Rattle.event_model.specs.Presence.{Said, Says, Fails}
+use Rattle.event_model.specs.declared.atoms.Atom.{Atom}
+use Rattle.event_model.specs.declared.events.Event.{Event}
+use Rattle.event_model.specs.declared.events.TheConstants.{TIME_LIMIT}
+use Rattle.event_model.specs.declared.inputs.Input.{Input}
 use Rattle.event_reader.specs.declared.parts.Part.{Part}
 use Rattle.event_reader.specs.declared.parts.Part.TheVariants.{Blank, Digit}
 use Rattle.event_reader.specs.declared.whens.Times.{Times}

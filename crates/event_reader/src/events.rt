@@ -6,7 +6,7 @@ use crate::faults::LineFault;
 use crate::peeking::gap_end;
 use crate::times::end_at;
 use crate::whens::times_at;
-use ev_term::{Atom, Event};
+use event_model::{Atom, Event};
 use std::alloc::Global;
 use term_reader::read_atom;
 

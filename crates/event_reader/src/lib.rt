@@ -10,7 +10,7 @@ mod times;
 mod whens;
 mod words;
 
-pub use ev_term::{Input, Judgement};
+pub use event_model::{Input, Judgement};
 pub use faults::LineFault;
 pub use line_reader::{Line, LineReader};
 pub use reading::{lines_are_heard_exactly, parse_line};

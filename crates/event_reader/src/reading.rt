@@ -1,6 +1,6 @@
 // Lines.
 ghost use Rattle.std.specs.Prelude.{◌≡◌, ◌≤◌, ℕ, List, length};
-ghost use Rattle.ev_term.specs.Presence.{Said};
+ghost use Rattle.event_model.specs.Presence.{Said};
 ghost use Rattle.event_reader.specs.EventLines.{Hears};
 ghost use Rattle.event_reader.specs.Machine.{heard};
 ghost use Rattle.event_reader.specs.Reads.{Heard, LineRead};
@@ -11,7 +11,7 @@ use crate::parts::Part;
 use crate::peeking::{blanks_end, part_at};
 use crate::times::advance_at;
 use crate::words::word_at;
-use ev_term::{Input, MOST_LINE_BYTES};
+use event_model::{Input, MOST_LINE_BYTES};
 use std::alloc::Global;
 
 // The input of a line of any length.

@@ -4,7 +4,7 @@ ghost use Rattle.event_reader.specs.Reads.{DigitsAt, TimeAt, MarkedTimeAt, EndAt
 
 use crate::faults::LineFault;
 use crate::peeking::{blanks_end, digit_at, gap_end};
-use ev_term::TIME_LIMIT;
+use event_model::TIME_LIMIT;
 
 // The rest of a time, whose digits so far have this value.
 fn digits_at(line: &[u8], at: usize, so_far: u64) -> Result<(u64, usize), LineFault>

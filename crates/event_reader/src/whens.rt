@@ -5,7 +5,7 @@ ghost use Rattle.event_reader.specs.Reads.{AreTimes, SpanOf, TimesAt};
 use crate::faults::LineFault;
 use crate::peeking::stands_at;
 use crate::times::{marked_time_at, time_at};
-use ev_term::Span;
+use event_model::Span;
 
 /// When an event happened, as it is written: at a time, or from a time to a second one, which begins at the place.
 #[derive(Clone, Copy)]

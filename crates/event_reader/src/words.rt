@@ -5,7 +5,7 @@ ghost use Rattle.event_reader.specs.Reads.{SpelledAt, AloneAt, WordAt};
 use crate::faults::LineFault;
 use crate::peeking::stands_at;
 use crate::times::end_at;
-use ev_term::Input;
+use event_model::Input;
 
 // The place behind a word that stands at a place.
 fn word_end(line: &[u8], at: usize, word: &[u8]) -> Result<usize, LineFault>

@@ -1,11 +1,11 @@
 -- The operators between two spans: which spans pair, on which span, and where the partners of a span lie.
 use Rattle.std.specs.Prelude.{ℕ, ◌+◌, ◌-◌, ◌<◌, ◌≤◌, min, max, Bool, true, false, cond, ◌&&◌, ◌==◌, nat_lt, nat_le, Option, Some, None}
-use Rattle.ev_term.specs.Spans.{PlainSpan}
-use Rattle.ev_term.specs.declared.events.TheConstants.{TIME_LIMIT}
-use Rattle.ev_term.specs.declared.operators.Op.{Op}
-use Rattle.ev_term.specs.declared.operators.Op.TheVariants.{Seq, And, Par, Equals, Meets, During, Starts, Finishes}
-use Rattle.ev_term.specs.declared.operators.Edge.{Edge}
-use Rattle.ev_term.specs.declared.operators.Edge.TheVariants.{Start, End}
+use Rattle.event_model.specs.Spans.{PlainSpan}
+use Rattle.event_model.specs.declared.events.TheConstants.{TIME_LIMIT}
+use Rattle.event_model.specs.declared.operators.Op.{Op}
+use Rattle.event_model.specs.declared.operators.Op.TheVariants.{Seq, And, Par, Equals, Meets, During, Starts, Finishes}
+use Rattle.event_model.specs.declared.operators.Edge.{Edge}
+use Rattle.event_model.specs.declared.operators.Edge.TheVariants.{Start, End}
 use Rattle.interval_ops.specs.declared.ranges.Side.{Side}
 use Rattle.interval_ops.specs.declared.ranges.Side.TheVariants.{Left, Right}
 use Rattle.interval_ops.specs.declared.ranges.Range.{Range}

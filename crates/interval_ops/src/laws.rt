@@ -1,7 +1,7 @@
 // What the tables of the operators and of the ranges come to.
 ghost use Rattle.std.specs.Prelude.{◌≡◌, ◌↔◌, ℕ, IsTrue, IsSome, IfSome, Some, ◌&&◌};
-ghost use Rattle.ev_term.specs.Spans.{PlainSpan};
-ghost use Rattle.ev_term.specs.declared.operators.Op.{Op};
+ghost use Rattle.event_model.specs.Spans.{PlainSpan};
+ghost use Rattle.event_model.specs.declared.operators.Op.{Op};
 ghost use Rattle.interval_ops.specs.declared.ranges.Side.TheVariants.{Left, Right};
 ghost use Rattle.interval_ops.specs.Operators.{IsSpan, pair, hull, partner_range, in_range, decided_by_range, inside};
 

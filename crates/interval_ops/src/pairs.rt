@@ -2,7 +2,7 @@
 ghost use Rattle.std.specs.Prelude.{◌≡◌, min, max, true};
 ghost use Rattle.interval_ops.specs.Operators.{pair, pairs, hull};
 
-use ev_term::{Op, Span};
+use event_model::{Op, Span};
 
 // Whether the spans meet the operator's condition.
 fn pairs(op: Op, left: Span, right: Span) -> bool

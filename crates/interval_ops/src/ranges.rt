@@ -2,7 +2,7 @@
 ghost use Rattle.std.specs.Prelude.{◌≡◌};
 ghost use Rattle.interval_ops.specs.Operators.{partner_range, in_range, edge_of, range_from, range_at, range_before};
 
-use ev_term::{Edge, Op, Span, TIME_LIMIT};
+use event_model::{Edge, Op, Span, TIME_LIMIT};
 
 /// On which side of an operator a span stands.
 #[derive(Clone, Copy, Debug, PartialEq, Eq)]

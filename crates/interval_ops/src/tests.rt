@@ -1,6 +1,6 @@
 // The operators at their strict edges, and the ranges of the spans that pair there.
 use crate::{Side, in_range, pair, partner_range};
-use ev_term::{Op, Span};
+use event_model::{Op, Span};
 use std::test::Fail;
 
 #[test]

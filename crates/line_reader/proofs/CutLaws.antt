@@ -2,8 +2,8 @@
 use Rattle.std.proofs.Common.{◌≡◌, ℕ, Bool, true, false, cond, ◌==◌, ◌||◌, List, [], ◌∷◌, ◌++◌, map, refl, ap, sym, ◌∙◌, append-nil, append_assoc}
 use Rattle.std.specs.List.{list_any}
 use Rattle.std.proofs.lemmas.List.Folds.{list_any-append}
-use Rattle.ev_term.specs.Bytes.{feed}
-use Rattle.ev_term.specs.Lines.{without_cr, ended_from, rest_from, ended, rest, last_line, lines_of}
+use Rattle.event_model.specs.Bytes.{feed}
+use Rattle.event_model.specs.Lines.{without_cr, ended_from, rest_from, ended, rest, last_line, lines_of}
 use Rattle.line_reader.specs.Cutting.{NoFeed, AreLines, with_feeds}
 
 abbrev is_feed : ℕ → Bool

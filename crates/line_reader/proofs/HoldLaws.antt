@@ -4,7 +4,7 @@ use Rattle.std.specs.List.{list_any}
 use Rattle.std.proofs.lemmas.Bool.{eqb-true}
 use Rattle.std.proofs.lemmas.List.{take_rest, drop-drop, take-take, take-append-le, drop-append-le}
 use Rattle.std.proofs.lemmas.List.Folds.{list_any-append}
-use Rattle.ev_term.specs.Bytes.{feed}
+use Rattle.event_model.specs.Bytes.{feed}
 use Rattle.line_reader.specs.declared.reading.Line.{Line}
 use Rattle.line_reader.specs.declared.reading.Line.TheVariants.{Long}
 use Rattle.line_reader.specs.declared.reading.OpenLine.{OpenLine}

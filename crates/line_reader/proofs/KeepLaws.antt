@@ -5,8 +5,8 @@ use Rattle.std.proofs.Math.Numerals.{one-add}
 use Rattle.std.proofs.lemmas.Bool.{eqb-true}
 use Rattle.std.proofs.lemmas.List.Quantifiers.{position-Some}
 use Rattle.std.proofs.lemmas.List.Sums.{split_at_first}
-use Rattle.ev_term.specs.Bytes.{feed}
-use Rattle.ev_term.specs.Lines.{without_cr}
+use Rattle.event_model.specs.Bytes.{feed}
+use Rattle.event_model.specs.Lines.{without_cr}
 use Rattle.line_reader.specs.declared.reading.Line.{Line}
 use Rattle.line_reader.specs.declared.reading.Line.TheVariants.{Bytes, Long}
 use Rattle.line_reader.specs.Cutting.{NoFeed, IsLine}

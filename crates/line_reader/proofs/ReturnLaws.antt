@@ -1,6 +1,6 @@
 -- The carriage return at the end of a line.
 use Rattle.std.proofs.Common.{◌≡◌, ℕ, ◌≢◌, Bool, true, false, cond, eqb, eqb-true, List, [], ◌∷◌, ◌++◌, refl, sym, ap, ◌∙◌}
-use Rattle.ev_term.specs.Lines.{without_cr}
+use Rattle.event_model.specs.Lines.{without_cr}
 
 cr_cut : (front : List ℕ) → without_cr (front ++ 13 ∷ []) ≡ front
 cr_cut [] = refl

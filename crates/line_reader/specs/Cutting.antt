@@ -1,9 +1,9 @@
 -- What a reader of lines gives of the bytes that it holds.
 use Rattle.std.specs.Prelude.{◌≡◌, ℕ, ◌<◌, ◌≤◌, false, ◌==◌, List, [], ◌∷◌, ◌++◌, length}
 use Rattle.std.specs.List.{list_any, flat_map}
-use Rattle.ev_term.specs.Bytes.{feed}
-use Rattle.ev_term.specs.Lines.{without_cr}
-use Rattle.ev_term.specs.declared.inputs.TheConstants.{MOST_LINE_BYTES}
+use Rattle.event_model.specs.Bytes.{feed}
+use Rattle.event_model.specs.Lines.{without_cr}
+use Rattle.event_model.specs.declared.inputs.TheConstants.{MOST_LINE_BYTES}
 use Rattle.line_reader.specs.declared.reading.Line.{Line}
 use Rattle.line_reader.specs.declared.reading.Line.TheVariants.{Bytes, Long}
 

@@ -1,6 +1,6 @@
 -- The bytes that a reader of lines stands for.
 use Rattle.std.specs.Prelude.{◌≡◌, ℕ, ◌-◌, ◌<◌, ◌≤◌, List, ◌∷◌, ◌++◌, length, drop, Option, IsSome, IsNone}
-use Rattle.ev_term.specs.Bytes.{feed}
+use Rattle.event_model.specs.Bytes.{feed}
 use Rattle.line_reader.specs.declared.reading.Line.{Line}
 use Rattle.line_reader.specs.declared.reading.LineReader.{LineReader}
 use Rattle.line_reader.specs.Cutting.{NoFeed}

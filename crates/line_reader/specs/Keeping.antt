@@ -1,7 +1,7 @@
 -- What a reader of lines keeps of the bytes that were fed.
 use Rattle.std.specs.Prelude.{◌≡◌, ℕ, ◌+◌, ◌<◌, nat_lt, Bool, true, false, ◌==◌, if◌then◌else◌, List, [], ◌∷◌, ◌++◌, length, take, drop}
-use Rattle.ev_term.specs.Bytes.{feed}
-use Rattle.ev_term.specs.declared.inputs.TheConstants.{MOST_LINE_BYTES}
+use Rattle.event_model.specs.Bytes.{feed}
+use Rattle.event_model.specs.declared.inputs.TheConstants.{MOST_LINE_BYTES}
 use Rattle.line_reader.specs.declared.reading.OpenLine.{OpenLine}
 use Rattle.line_reader.specs.Cutting.{NoFeed}
 

@@ -1,7 +1,7 @@
 // Laws of lines that are cut from bytes.
 ghost use Rattle.std.specs.Prelude.{◌≡◌, ℕ, List, [], ◌∷◌, ◌++◌, map};
-ghost use Rattle.ev_term.specs.Bytes.{feed};
-ghost use Rattle.ev_term.specs.Lines.{without_cr, ended_from, rest_from, ended, rest, last_line, lines_of};
+ghost use Rattle.event_model.specs.Bytes.{feed};
+ghost use Rattle.event_model.specs.Lines.{without_cr, ended_from, rest_from, ended, rest, last_line, lines_of};
 ghost use Rattle.line_reader.specs.Cutting.{NoFeed, AreLines, with_feeds};
 
 /// The first line and those behind it, bytes without a line feed, and a part that came before.

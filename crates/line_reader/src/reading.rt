@@ -1,12 +1,12 @@
 // A reader that holds the bytes of lines that weren't given yet.
 ghost use Rattle.std.specs.Prelude.{◌≡◌, ◌≢◌, ℕ, ◌+◌, ◌*◌, ◌≤◌, min, IsTrue, List, [], ◌∷◌, ◌++◌, length, take, drop};
 ghost use Rattle.std.specs.Prelude.{MatchOption, OnOk, OnErr, IfOk, vec_len};
-ghost use Rattle.ev_term.specs.Bytes.{feed};
-ghost use Rattle.ev_term.specs.Lines.{without_cr};
+ghost use Rattle.event_model.specs.Bytes.{feed};
+ghost use Rattle.event_model.specs.Lines.{without_cr};
 ghost use Rattle.line_reader.specs.Cutting.{NoFeed, IsLine};
 ghost use Rattle.line_reader.specs.Keeping.{most_kept, mark_if, clipped_from, open_from, none_open, marked_length, IsFirstFeed};
 
-use ev_term::MOST_LINE_BYTES;
+use event_model::MOST_LINE_BYTES;
 use std::alloc::{AllocError, Global};
 
 // So many bytes are kept of a line that no line feed ended: the longest with its carriage return.

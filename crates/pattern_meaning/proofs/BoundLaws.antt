@@ -10,20 +10,20 @@ use Rattle.std.proofs.lemmas.Slice.Eq.{bytes_eq-Decides}
 use Rattle.ordered_lists.specs.Lists.{some_of, joins, with_each, Each, Each-append, Each-filter, Each-filter_passes, Each-flat_map}
 use Rattle.ordered_lists.specs.Canon.{canon, Each-canon}
 use Rattle.ordered_lists.specs.Members.{without, list_any-canon}
-use Rattle.ev_term.specs.Spans.{PlainSpan}
-use Rattle.ev_term.specs.Events.{span_of}
-use Rattle.ev_term.specs.declared.events.Event.{Event}
-use Rattle.ev_term.specs.declared.operators.Op.{Op}
-use Rattle.ev_term.specs.declared.operators.Op.TheVariants.{Seq}
-use Rattle.ev_term.specs.declared.terms.Term.{Term}
-use Rattle.ev_term.specs.declared.terms.Pat.{Pat, out-Pat, roll-Pat, out-roll-Pat}
-use Rattle.ev_term.specs.declared.terms.Pat.TheOpen.{Pat-F}
-use Rattle.ev_term.specs.declared.terms.Pat.TheOpen.Pat-F.{Var, Any, Num, Sym, Text, Comp}
-use Rattle.ev_term.specs.declared.terms.Pat.TheFolds.{map-Pat, fold_out-Pat}
-use Rattle.ev_term.specs.declared.atoms.Atom.{Atom as GroundAtom}
-use Rattle.ev_term.specs.declared.atoms.PatAtom.{PatAtom}
-use Rattle.ev_term.specs.declared.atoms.NameArity.{NameArity}
-use Rattle.ev_term.proofs.Layers.{Each as EachPart, args_of as parts_of, by_layers}
+use Rattle.event_model.specs.Spans.{PlainSpan}
+use Rattle.event_model.specs.Events.{span_of}
+use Rattle.event_model.specs.declared.events.Event.{Event}
+use Rattle.event_model.specs.declared.operators.Op.{Op}
+use Rattle.event_model.specs.declared.operators.Op.TheVariants.{Seq}
+use Rattle.event_model.specs.declared.terms.Term.{Term}
+use Rattle.event_model.specs.declared.terms.Pat.{Pat, out-Pat, roll-Pat, out-roll-Pat}
+use Rattle.event_model.specs.declared.terms.Pat.TheOpen.{Pat-F}
+use Rattle.event_model.specs.declared.terms.Pat.TheOpen.Pat-F.{Var, Any, Num, Sym, Text, Comp}
+use Rattle.event_model.specs.declared.terms.Pat.TheFolds.{map-Pat, fold_out-Pat}
+use Rattle.event_model.specs.declared.atoms.Atom.{Atom as GroundAtom}
+use Rattle.event_model.specs.declared.atoms.PatAtom.{PatAtom}
+use Rattle.event_model.specs.declared.atoms.NameArity.{NameArity}
+use Rattle.event_model.proofs.Layers.{Each as EachPart, args_of as parts_of, by_layers}
 use Rattle.interval_ops.specs.Operators.{pair}
 use Rattle.ev_bind.specs.Bindings.{Pairs, pair_cmp, single, join, value_at, exact_pairs}
 use Rattle.ev_bind.specs.Matching.{match_of_args, match_of, instance}

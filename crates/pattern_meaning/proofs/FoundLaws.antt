@@ -11,15 +11,15 @@ use Rattle.std.proofs.lemmas.Slice.Eq.{bytes_eq-Decides}
 use Rattle.ordered_lists.specs.Lists.{some_of, Each, flat_map_cut}
 use Rattle.ordered_lists.specs.Canon.{canon, Exact}
 use Rattle.ordered_lists.specs.Members.{canon-map-canon, canon-append-canon_both, canon-append-canon_after, canon-flat_map-canon}
-use Rattle.ev_term.specs.Spans.{PlainSpan}
-use Rattle.ev_term.specs.Events.{span_of}
-use Rattle.ev_term.specs.declared.events.Event.{Event}
-use Rattle.ev_term.specs.EventOrder.{detection_cmp, exact_detections}
-use Rattle.ev_term.specs.declared.terms.Term.{Term}
-use Rattle.ev_term.specs.declared.terms.Pat.{Pat}
-use Rattle.ev_term.specs.declared.atoms.PatAtom.{PatAtom}
-use Rattle.ev_term.specs.declared.atoms.NameArity.{NameArity}
-use Rattle.ev_term.specs.declared.events.Detection.{Detection}
+use Rattle.event_model.specs.Spans.{PlainSpan}
+use Rattle.event_model.specs.Events.{span_of}
+use Rattle.event_model.specs.declared.events.Event.{Event}
+use Rattle.event_model.specs.EventOrder.{detection_cmp, exact_detections}
+use Rattle.event_model.specs.declared.terms.Term.{Term}
+use Rattle.event_model.specs.declared.terms.Pat.{Pat}
+use Rattle.event_model.specs.declared.atoms.PatAtom.{PatAtom}
+use Rattle.event_model.specs.declared.atoms.NameArity.{NameArity}
+use Rattle.event_model.specs.declared.events.Detection.{Detection}
 use Rattle.ev_bind.specs.Bindings.{Pairs, union_of}
 use Rattle.ev_bind.specs.Matching.{pairs_of, pairs_of_all, with_pairs, match_of_args, instance}
 use Rattle.ev_bind.specs.Rows.{exact_rows}

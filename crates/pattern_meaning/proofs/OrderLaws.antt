@@ -11,10 +11,10 @@ use Rattle.std.proofs.lemmas.Slice.Eq.{bytes_eq-Decides}
 use Rattle.ordered_lists.specs.Lists.{Each, Each-filter, Each-filter_passes, filter-filter, filter_agree_on}
 use Rattle.ordered_lists.specs.Canon.{canon, has}
 use Rattle.ordered_lists.specs.Members.{canon-append-canon, canon-append-canon_after}
-use Rattle.ev_term.specs.declared.events.Event.{Event}
-use Rattle.ev_term.specs.EventOrder.{name_cmp, detection_cmp, exact_detections, same_names}
-use Rattle.ev_term.specs.declared.atoms.NameArity.{NameArity}
-use Rattle.ev_term.specs.declared.events.Detection.{Detection}
+use Rattle.event_model.specs.declared.events.Event.{Event}
+use Rattle.event_model.specs.EventOrder.{name_cmp, detection_cmp, exact_detections, same_names}
+use Rattle.event_model.specs.declared.atoms.NameArity.{NameArity}
+use Rattle.event_model.specs.declared.events.Detection.{Detection}
 use Rattle.ev_bind.specs.Rows.{exact_rows}
 use Rattle.ev_bind.specs.declared.rows.Row.{Row}
 use Rattle.rule_ast.specs.Trees.{PlainRule, PlainStatement}

@@ -2,15 +2,15 @@
 use Rattle.std.proofs.Common.{◌≡◌, ◌⊎◌, ◌↔◌, ◌<◌, ◌≤◌, ℕ, Bool, true, false, cond, not, Option, Some, None, refl, sym, ap, ◌∙◌, subst, inl, inr, arith}
 use Rattle.std.specs.Prelude.{nat_lt, ◌==◌}
 use Rattle.std.proofs.lemmas.Bool.{true≢false, ltb-true, ltb-false, lt-ltb, le-ltb, eqb-true, eq-eqb}
-use Rattle.ev_term.specs.Events.{time_of}
-use Rattle.ev_term.specs.Presence.{History, settled, all_inputs, in_batch, copies, bound, judge, Said, Says, Fails, Verdict, Accepted, Refused, verdict, verdict_of}
-use Rattle.ev_term.specs.declared.events.Event.{Event}
-use Rattle.ev_term.specs.declared.inputs.Input.{Input}
-use Rattle.ev_term.specs.declared.inputs.Input.TheVariants.{Add, Take, Advance, Nothing, Begin, Commit}
-use Rattle.ev_term.specs.declared.inputs.Judgement.{Judgement}
-use Rattle.ev_term.specs.declared.inputs.Judgement.TheVariants as judgement
-use Rattle.ev_term.specs.declared.inputs.Refusal.{Refusal}
-use Rattle.ev_term.specs.declared.inputs.Refusal.TheVariants.{Syntax, Batch, Below, Absent}
+use Rattle.event_model.specs.Events.{time_of}
+use Rattle.event_model.specs.Presence.{History, settled, all_inputs, in_batch, copies, bound, judge, Said, Says, Fails, Verdict, Accepted, Refused, verdict, verdict_of}
+use Rattle.event_model.specs.declared.events.Event.{Event}
+use Rattle.event_model.specs.declared.inputs.Input.{Input}
+use Rattle.event_model.specs.declared.inputs.Input.TheVariants.{Add, Take, Advance, Nothing, Begin, Commit}
+use Rattle.event_model.specs.declared.inputs.Judgement.{Judgement}
+use Rattle.event_model.specs.declared.inputs.Judgement.TheVariants as judgement
+use Rattle.event_model.specs.declared.inputs.Refusal.{Refusal}
+use Rattle.event_model.specs.declared.inputs.Refusal.TheVariants.{Syntax, Batch, Below, Absent}
 use Rattle.pattern_meaning.specs.Refusals.{time_in, SaysNoInput, SaysMisplaced, SaysBelow, SaysAbsent, SaysFine}
 
 -- ---- what a verdict comes from

@@ -2,8 +2,8 @@
 use Rattle.std.specs.Prelude.{ℕ, ◌≡◌, true, is_some, List, ◌++◌, length}
 use Rattle.std.specs.List.{list_all}
 use Rattle.ordered_lists.specs.Lists.{Each}
-use Rattle.ev_term.specs.declared.operators.Op.TheVariants.{Seq}
-use Rattle.ev_term.specs.declared.atoms.NameArity.{NameArity}
+use Rattle.event_model.specs.declared.operators.Op.TheVariants.{Seq}
+use Rattle.event_model.specs.declared.atoms.NameArity.{NameArity}
 use Rattle.ev_bind.specs.Bindings.{Pairs, value_at}
 use Rattle.ev_bind.specs.declared.rows.Row.{Row}
 use Rattle.rule_ast.specs.Trees.{PlainPattern, Atom, Both, Either, Where, Exact, Within, Not, PlainRule}

@@ -11,13 +11,13 @@ use Rattle.std.proofs.lemmas.Bool.{true≢false, eqb-true, and_parts}
 use Rattle.std.proofs.lemmas.Slice.Eq.{bytes_eq-Decides}
 use Rattle.ordered_lists.specs.Lists.{Each}
 use Rattle.ordered_lists.specs.Canon.{has, has-append, canon_itself, Rising-canon}
-use Rattle.ev_term.specs.declared.events.Event.{Event}
-use Rattle.ev_term.specs.declared.atoms.NameArity.{NameArity}
+use Rattle.event_model.specs.declared.events.Event.{Event}
+use Rattle.event_model.specs.declared.atoms.NameArity.{NameArity}
 use Rattle.ev_bind.specs.Rows.{exact_rows}
 use Rattle.ev_bind.specs.declared.rows.Row.{Row}
 use Rattle.rule_ast.specs.Trees.{PlainPattern, Atom, Both, Either, Where, Exact, Within, Not, PlainRule}
 use Rattle.term_eval.specs.Values.{holds}
-use Rattle.ev_term.specs.EventOrder.{name_cmp, exact_names}
+use Rattle.event_model.specs.EventOrder.{name_cmp, exact_names}
 use Rattle.rule_check.specs.Names.{name_of_atom, head_name, head_names, body_names}
 use Rattle.rule_check.specs.Graphs.{greatest}
 use Rattle.rule_check.specs.Cycles.{below, IsRanking}

@@ -3,11 +3,11 @@ use Rattle.std.specs.Prelude.{ℕ, zero, suc, ◌==◌, Bool, cond, Some, List, 
 use Rattle.std.specs.List.{filter}
 use Rattle.std.specs.Str.{bytes_eq}
 use Rattle.ordered_lists.specs.Lists.{some_of}
-use Rattle.ev_term.specs.Events.{span_of}
-use Rattle.ev_term.specs.declared.events.Event.{Event}
-use Rattle.ev_term.specs.declared.atoms.PatAtom.{PatAtom}
-use Rattle.ev_term.specs.declared.atoms.NameArity.{NameArity}
-use Rattle.ev_term.specs.declared.events.Detection.{Detection}
+use Rattle.event_model.specs.Events.{span_of}
+use Rattle.event_model.specs.declared.events.Event.{Event}
+use Rattle.event_model.specs.declared.atoms.PatAtom.{PatAtom}
+use Rattle.event_model.specs.declared.atoms.NameArity.{NameArity}
+use Rattle.event_model.specs.declared.events.Detection.{Detection}
 use Rattle.ev_bind.specs.Matching.{match_of, instance}
 use Rattle.ev_bind.specs.declared.rows.Row.{Row}
 use Rattle.rule_ast.specs.Trees.{PlainRule}

@@ -4,13 +4,13 @@ use Rattle.std.specs.List.{filter}
 use Rattle.std.specs.Str.{bytes_eq}
 use Rattle.ordered_lists.specs.Lists.{some_of}
 use Rattle.ordered_lists.specs.Canon.{canon}
-use Rattle.ev_term.specs.Spans.{PlainSpan}
-use Rattle.ev_term.specs.Events.{span_of}
-use Rattle.ev_term.specs.declared.events.Event.{Event}
-use Rattle.ev_term.specs.declared.terms.Term.{Term}
-use Rattle.ev_term.specs.declared.atoms.Atom.{Atom}
-use Rattle.ev_term.specs.declared.atoms.PatAtom.{PatAtom}
-use Rattle.ev_term.specs.declared.atoms.NameArity.{NameArity}
+use Rattle.event_model.specs.Spans.{PlainSpan}
+use Rattle.event_model.specs.Events.{span_of}
+use Rattle.event_model.specs.declared.events.Event.{Event}
+use Rattle.event_model.specs.declared.terms.Term.{Term}
+use Rattle.event_model.specs.declared.atoms.Atom.{Atom}
+use Rattle.event_model.specs.declared.atoms.PatAtom.{PatAtom}
+use Rattle.event_model.specs.declared.atoms.NameArity.{NameArity}
 use Rattle.ev_bind.specs.Bindings.{Pairs}
 use Rattle.ev_bind.specs.Matching.{match_of_args, instance}
 use Rattle.ev_bind.specs.Rows.{row_cmp}

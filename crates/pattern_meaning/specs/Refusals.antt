@@ -1,10 +1,10 @@
 -- For what a line is refused, in words of what it says.
 use Rattle.std.specs.Prelude.{◌≡◌, ◌⊎◌, ◌<◌, ◌≤◌, ℕ, true, false, Option, Some, None}
-use Rattle.ev_term.specs.Events.{time_of}
-use Rattle.ev_term.specs.Presence.{History, settled, all_inputs, in_batch, copies, bound, Said, Says, Fails}
-use Rattle.ev_term.specs.declared.events.Event.{Event}
-use Rattle.ev_term.specs.declared.inputs.Input.{Input}
-use Rattle.ev_term.specs.declared.inputs.Input.TheVariants.{Add, Take, Advance, Nothing, Begin, Commit}
+use Rattle.event_model.specs.Events.{time_of}
+use Rattle.event_model.specs.Presence.{History, settled, all_inputs, in_batch, copies, bound, Said, Says, Fails}
+use Rattle.event_model.specs.declared.events.Event.{Event}
+use Rattle.event_model.specs.declared.inputs.Input.{Input}
+use Rattle.event_model.specs.declared.inputs.Input.TheVariants.{Add, Take, Advance, Nothing, Begin, Commit}
 
 -- the time of an input, where it has one: an event's is the end of its span
 abbrev pub time_in : Input → Option ℕ

@@ -3,15 +3,15 @@ use Rattle.std.specs.Prelude.{◌≡◌, ℕ, ◌+◌, Bool, true, false, not, �
 use Rattle.std.specs.List.{flat_map}
 use Rattle.ordered_lists.specs.Canon.{canon, has}
 use Rattle.ordered_lists.specs.Members.{without}
-use Rattle.ev_term.specs.Bytes.{feed, space, plus, minus}
-use Rattle.ev_term.specs.EventOrder.{detection_cmp}
-use Rattle.ev_term.specs.Text.{atom_text}
-use Rattle.ev_term.specs.Presence.{History, no_history, settled, settles, in_batch, extended, Said, Verdict, Accepted, Refused, verdict, after_verdict, present}
-use Rattle.ev_term.specs.declared.inputs.Input.{Input}
-use Rattle.ev_term.specs.declared.inputs.Input.TheVariants.{Nothing}
-use Rattle.ev_term.specs.declared.inputs.Refusal.{Refusal}
-use Rattle.ev_term.specs.declared.inputs.Refusal.TheVariants.{Syntax, Batch, Below, Absent}
-use Rattle.ev_term.specs.declared.events.Detection.{Detection}
+use Rattle.event_model.specs.Bytes.{feed, space, plus, minus}
+use Rattle.event_model.specs.EventOrder.{detection_cmp}
+use Rattle.event_model.specs.Text.{atom_text}
+use Rattle.event_model.specs.Presence.{History, no_history, settled, settles, in_batch, extended, Said, Verdict, Accepted, Refused, verdict, after_verdict, present}
+use Rattle.event_model.specs.declared.inputs.Input.{Input}
+use Rattle.event_model.specs.declared.inputs.Input.TheVariants.{Nothing}
+use Rattle.event_model.specs.declared.inputs.Refusal.{Refusal}
+use Rattle.event_model.specs.declared.inputs.Refusal.TheVariants.{Syntax, Batch, Below, Absent}
+use Rattle.event_model.specs.declared.events.Detection.{Detection}
 use Rattle.rule_ast.specs.Trees.{PlainStatement}
 use Rattle.pattern_meaning.specs.Standing.{standing}
 

@@ -4,10 +4,10 @@ use Rattle.std.specs.List.{filter, flat_map}
 use Rattle.std.specs.Str.{bytes_eq}
 use Rattle.ordered_lists.specs.Lists.{joins}
 use Rattle.ordered_lists.specs.Members.{without}
-use Rattle.ev_term.specs.declared.events.Event.{Event}
-use Rattle.ev_term.specs.declared.operators.Op.{Op}
-use Rattle.ev_term.specs.declared.operators.Op.TheVariants.{Seq}
-use Rattle.ev_term.specs.declared.atoms.NameArity.{NameArity}
+use Rattle.event_model.specs.declared.events.Event.{Event}
+use Rattle.event_model.specs.declared.operators.Op.{Op}
+use Rattle.event_model.specs.declared.operators.Op.TheVariants.{Seq}
+use Rattle.event_model.specs.declared.atoms.NameArity.{NameArity}
 use Rattle.interval_ops.specs.Operators.{pair}
 use Rattle.ev_bind.specs.Bindings.{join}
 use Rattle.ev_bind.specs.Rows.{row_cmp}

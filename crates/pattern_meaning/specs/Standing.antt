@@ -2,10 +2,10 @@
 use Rattle.std.specs.Prelude.{List, map}
 use Rattle.std.specs.List.{flat_map}
 use Rattle.ordered_lists.specs.Canon.{canon}
-use Rattle.ev_term.specs.declared.events.Event.{Event}
-use Rattle.ev_term.specs.EventOrder.{detection_cmp}
-use Rattle.ev_term.specs.declared.atoms.NameArity.{NameArity}
-use Rattle.ev_term.specs.declared.events.Detection.{Detection}
+use Rattle.event_model.specs.declared.events.Event.{Event}
+use Rattle.event_model.specs.EventOrder.{detection_cmp}
+use Rattle.event_model.specs.declared.atoms.NameArity.{NameArity}
+use Rattle.event_model.specs.declared.events.Detection.{Detection}
 use Rattle.ev_bind.specs.declared.rows.Row.{Row}
 use Rattle.rule_ast.specs.Trees.{PlainStatement}
 use Rattle.rule_check.specs.Sound.{rules_of}

@@ -1,9 +1,9 @@
 -- Rows of small rule files, computed. A word is one letter, by its number: a is 97.
 use Rattle.std.specs.Prelude.{ℕ, ◌≡◌, refl, List, [], ◌∷◌}
-use Rattle.ev_term.specs.Spans.{PlainSpan, instant}
-use Rattle.ev_term.specs.declared.events.Event.{Event}
-use Rattle.ev_term.specs.declared.operators.Op.TheVariants.{Seq, Par, During}
-use Rattle.ev_term.specs.declared.atoms.NameArity.{NameArity}
+use Rattle.event_model.specs.Spans.{PlainSpan, instant}
+use Rattle.event_model.specs.declared.events.Event.{Event}
+use Rattle.event_model.specs.declared.operators.Op.TheVariants.{Seq, Par, During}
+use Rattle.event_model.specs.declared.atoms.NameArity.{NameArity}
 use Rattle.ev_bind.specs.declared.rows.Row.{Row}
 use Rattle.rule_ast.specs.Trees.{PlainPattern, Atom, Both, Either, Exact, Not, PlainRule}
 use Rattle.pattern_meaning.specs.PatternRows.{found}

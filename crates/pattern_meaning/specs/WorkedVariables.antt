@@ -1,11 +1,11 @@
 -- Rows of small rule files with variables, computed. A word is one letter, by its number: a is 97.
 use Rattle.std.specs.Prelude.{ℕ, ℤ, pos, ◌≡◌, [], ◌∷◌}
-use Rattle.ev_term.specs.Spans.{instant}
-use Rattle.ev_term.specs.declared.events.Event.{Event}
-use Rattle.ev_term.specs.TermOrder.{nums}
-use Rattle.ev_term.specs.declared.operators.Op.TheVariants.{Seq, And}
-use Rattle.ev_term.specs.declared.terms.Term.TheVariants as made
-use Rattle.ev_term.specs.declared.terms.Pat.TheVariants as pat
+use Rattle.event_model.specs.Spans.{instant}
+use Rattle.event_model.specs.declared.events.Event.{Event}
+use Rattle.event_model.specs.TermOrder.{nums}
+use Rattle.event_model.specs.declared.operators.Op.TheVariants.{Seq, And}
+use Rattle.event_model.specs.declared.terms.Term.TheVariants as made
+use Rattle.event_model.specs.declared.terms.Pat.TheVariants as pat
 use Rattle.ev_bind.specs.Matching.{pairs_of-Var, instance-Var, instance-Num}
 use Rattle.ev_bind.specs.declared.rows.Row.{Row}
 use Rattle.rule_ast.specs.declared.conditions.Calc.TheVariants.{Mul}

@@ -13,7 +13,7 @@ ghost use Rattle.pattern_meaning.specs.Words.{words_of};
 use crate::forms::{in_order, join_rows, remaining_rows, rows_of_length, rows_where, rows_within};
 use crate::found::Found;
 use ev_bind::{Row, match_atom};
-use ev_term::{Detection, PatAtom};
+use event_model::{Detection, PatAtom};
 use rule_ast::Pattern;
 use std::alloc::{AllocError, Global};
 

@@ -12,7 +12,7 @@ use crate::bodies::pattern_rows;
 use crate::found::Found;
 use crate::rule_order::rules_by_rank;
 use ev_bind::{Row, instance_atom};
-use ev_term::{Atom, Detection, Event, NameArity, PatAtom};
+use event_model::{Atom, Detection, Event, NameArity, PatAtom};
 use ordered_lists::sort_unique;
 use rule_ast::Rule;
 use rule_check::Checked;

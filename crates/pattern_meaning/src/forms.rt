@@ -11,7 +11,7 @@ ghost use Rattle.pattern_meaning.specs.PatternRows.{rows_of};
 ghost use Rattle.pattern_meaning.specs.RuleRows.{joined, joined_rows, is_long, is_short, remaining};
 
 use ev_bind::Row;
-use ev_term::{Op, Span};
+use event_model::{Op, Span};
 use interval_ops::pair;
 use ordered_lists::{is_member, sort_unique};
 use rule_ast::Cond;

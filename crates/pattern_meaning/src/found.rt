@@ -3,7 +3,7 @@ ghost use Rattle.std.specs.Prelude.{◌≡◌, ℕ, List, [], OnOk};
 ghost use Rattle.pattern_meaning.specs.Found.{with_one};
 ghost use Rattle.pattern_meaning.specs.Words.{words_of};
 
-use ev_term::{Detection, Name};
+use event_model::{Detection, Name};
 use std::alloc::{AllocError, Global};
 use std::collections::HashMap;
 

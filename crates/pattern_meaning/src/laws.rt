@@ -1,11 +1,11 @@
 // What the definitions come to.
 ghost use Rattle.std.specs.Prelude.{◌≡◌, ◌↔◌, ◌≤◌, ℕ, Option, List};
 ghost use Rattle.ordered_lists.specs.Lists.{Each};
-ghost use Rattle.ev_term.specs.Presence.{Accepted, History, Refused, Said, verdict};
-ghost use Rattle.ev_term.specs.declared.inputs.Input.{Input};
-ghost use Rattle.ev_term.specs.declared.inputs.Refusal.TheVariants.{Syntax, Batch, Below, Absent};
-ghost use Rattle.ev_term.specs.declared.atoms.NameArity.{NameArity};
-ghost use Rattle.ev_term.specs.declared.events.Event.{Event};
+ghost use Rattle.event_model.specs.Presence.{Accepted, History, Refused, Said, verdict};
+ghost use Rattle.event_model.specs.declared.inputs.Input.{Input};
+ghost use Rattle.event_model.specs.declared.inputs.Refusal.TheVariants.{Syntax, Batch, Below, Absent};
+ghost use Rattle.event_model.specs.declared.atoms.NameArity.{NameArity};
+ghost use Rattle.event_model.specs.declared.events.Event.{Event};
 ghost use Rattle.ev_bind.specs.declared.rows.Row.{Row};
 ghost use Rattle.rule_ast.specs.Shaped.{IsShaped};
 ghost use Rattle.rule_ast.specs.Trees.{PlainPattern, PlainRule, PlainStatement};

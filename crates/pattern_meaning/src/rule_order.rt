@@ -9,7 +9,7 @@ ghost use Rattle.pattern_meaning.specs.PatternRows.{name_of};
 ghost use Rattle.pattern_meaning.specs.Found.{by_rank};
 ghost use Rattle.pattern_meaning.specs.RuleOrder.{rules_at, ranked_by, ranked_at};
 
-use ev_term::{NameArity, PatAtom};
+use event_model::{NameArity, PatAtom};
 use rule_ast::{Rule, Statement};
 use rule_check::Checked;
 use std::alloc::{AllocError, Global};

@@ -2,8 +2,8 @@
 use Rattle.std.specs.Prelude.{if◌then◌else◌, List, ◌++◌, map}
 use Rattle.ordered_lists.specs.Canon.{canon, has}
 use Rattle.ordered_lists.specs.Members.{without}
-use Rattle.ev_term.specs.EventOrder.{event_cmp}
-use Rattle.ev_term.specs.declared.events.Event.{Event}
+use Rattle.event_model.specs.EventOrder.{event_cmp}
+use Rattle.event_model.specs.declared.events.Event.{Event}
 use Rattle.revision.specs.declared.events.EventChange.{EventChange}
 use Rattle.revision.specs.declared.events.EventChange.TheVariants.{Came, Went}
 

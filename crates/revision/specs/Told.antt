@@ -1,6 +1,6 @@
 -- The changes that an iterator has still to give.
 use Rattle.std.specs.Prelude.{List, ◌++◌, map}
-use Rattle.ev_term.specs.declared.events.Detection.{Detection}
+use Rattle.event_model.specs.declared.events.Detection.{Detection}
 use Rattle.revision.specs.declared.changes.Sign.{Sign}
 use Rattle.revision.specs.declared.changes.Sign.TheVariants.{Plus, Minus}
 use Rattle.revision.specs.declared.changes.Changed.{Changed}

@@ -2,7 +2,7 @@
 ghost use Rattle.std.specs.Prelude.{◌≡◌};
 ghost use Rattle.revision.specs.Told.{changes_left, signed};
 
-use ev_term::Detection;
+use event_model::Detection;
 
 /// Whether a turn has left work.
 #[derive(Clone, Copy, Debug, PartialEq, Eq)]

@@ -1,5 +1,5 @@
 // How a set of events changes.
-use ev_term::Event;
+use event_model::Event;
 
 /// An event of which a first copy has come, or of which the last copy has gone.
 #[derive(Drop)]

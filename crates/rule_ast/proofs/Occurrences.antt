@@ -4,8 +4,8 @@ use Rattle.std.specs.List.{flat_map}
 use Rattle.std.proofs.Math.Bool.{or_assoc}
 use Rattle.std.proofs.lemmas.List.{take_more}
 use Rattle.std.proofs.lemmas.List.Concat.{flat_map-append}
-use Rattle.ev_term.specs.SlotSets.{slot_in}
-use Rattle.ev_term.specs.declared.terms.Pat.{Pat}
+use Rattle.event_model.specs.SlotSets.{slot_in}
+use Rattle.event_model.specs.declared.terms.Pat.{Pat}
 use Rattle.rule_ast.specs.Vars.{slots_of, is_in, is_in-append}
 
 flat_map_more : (xs : List Pat) (i : ℕ) (x : Pat) → i < length xs → x ≡ get_or xs i x

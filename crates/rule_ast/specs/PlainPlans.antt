@@ -1,12 +1,12 @@
 -- Plans as plain data: what definitions and proofs speak of. Steps are named by number, from 0.
 use Rattle.std.specs.Prelude.{ℕ, zero, suc, List, [], ◌∷◌, ◌++◌, map}
 use Rattle.std.specs.List.{filter}
-use Rattle.ev_term.specs.SlotSets.{slot_in}
-use Rattle.ev_term.specs.declared.atoms.NameArity.{NameArity}
-use Rattle.ev_term.specs.declared.atoms.PatAtom.{PatAtom}
-use Rattle.ev_term.specs.declared.operators.Edge.{Edge}
-use Rattle.ev_term.specs.declared.operators.Op.{Op}
-use Rattle.ev_term.specs.declared.terms.TheConstants.{MOST_SLOTS}
+use Rattle.event_model.specs.SlotSets.{slot_in}
+use Rattle.event_model.specs.declared.atoms.NameArity.{NameArity}
+use Rattle.event_model.specs.declared.atoms.PatAtom.{PatAtom}
+use Rattle.event_model.specs.declared.operators.Edge.{Edge}
+use Rattle.event_model.specs.declared.operators.Op.{Op}
+use Rattle.event_model.specs.declared.terms.TheConstants.{MOST_SLOTS}
 use Rattle.rule_ast.specs.declared.plans.Index.{Index}
 use Rattle.rule_ast.specs.declared.plans.Plan.{Plan}
 use Rattle.rule_ast.specs.declared.plans.Step.{Step}

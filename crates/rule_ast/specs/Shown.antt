@@ -1,6 +1,6 @@
 -- The names of the `show` statements.
 use Rattle.std.specs.Prelude.{List, [], ◌∷◌, ◌++◌}
-use Rattle.ev_term.specs.declared.atoms.NameArity.{NameArity}
+use Rattle.event_model.specs.declared.atoms.NameArity.{NameArity}
 use Rattle.rule_ast.specs.Trees.{PlainStatement, Clause, Show}
 
 -- one statement behind the other

@@ -3,12 +3,12 @@ use Rattle.std.specs.Prelude.{ℕ, ℤ, ◌≡◌, refl, Bool, false, ◌||◌, 
 use Rattle.std.specs.List.{list_any, flat_map}
 use Rattle.std.proofs.Common.{ap, ◌∙◌}
 use Rattle.std.proofs.lemmas.List.Folds.{list_any-append, flat_map-map}
-use Rattle.ev_term.specs.declared.terms.Pat.{Pat, out-Pat}
-use Rattle.ev_term.specs.declared.terms.Pat.TheOpen.{Pat-F}
-use Rattle.ev_term.specs.declared.terms.Pat.TheOpen.Pat-F.{Var, Any, Num, Sym, Text, Comp}
-use Rattle.ev_term.specs.declared.terms.Pat.TheVariants as pat
-use Rattle.ev_term.specs.declared.terms.Pat.TheFolds.{fold-Pat, fold_out-Pat, map-Pat}
-use Rattle.ev_term.specs.declared.atoms.PatAtom.{PatAtom}
+use Rattle.event_model.specs.declared.terms.Pat.{Pat, out-Pat}
+use Rattle.event_model.specs.declared.terms.Pat.TheOpen.{Pat-F}
+use Rattle.event_model.specs.declared.terms.Pat.TheOpen.Pat-F.{Var, Any, Num, Sym, Text, Comp}
+use Rattle.event_model.specs.declared.terms.Pat.TheVariants as pat
+use Rattle.event_model.specs.declared.terms.Pat.TheFolds.{fold-Pat, fold_out-Pat, map-Pat}
+use Rattle.event_model.specs.declared.atoms.PatAtom.{PatAtom}
 use Rattle.rule_ast.specs.Trees.{PlainPattern, Atom, Both, Either, Where, Exact, Within, Not}
 
 abbrev pub slots_step : Pat-F (List ℕ) → List ℕ

@@ -1,5 +1,5 @@
 // Conditions of WHERE.
-use ev_term::Pat;
+use event_model::Pat;
 
 /// Arithmetic between two numbers.
 #[derive(Clone, Copy, Debug, PartialEq, Eq)]

@@ -1,6 +1,6 @@
 // Patterns of events.
 use crate::conditions::Cond;
-use ev_term::{Op, PatAtom};
+use event_model::{Op, PatAtom};
 
 /// A pattern of events: its rows are bindings with spans.
 #[derive(Drop)]

@@ -1,6 +1,6 @@
 // Plans: steps that are named by number, and the indexes that they use.
 use crate::conditions::Cond;
-use ev_term::{Edge, NameArity, Op, PatAtom, Slots};
+use event_model::{Edge, NameArity, Op, PatAtom, Slots};
 
 /// The number of a step in its plan, from 0.
 pub type StepId = u32;

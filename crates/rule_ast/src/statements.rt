@@ -1,6 +1,6 @@
 // Rules, and the statements of a rule file.
 use crate::patterns::Pattern;
-use ev_term::{Name, NameArity, PatAtom};
+use event_model::{Name, NameArity, PatAtom};
 
 /// A head and the pattern that gives its rows. The variable of slot i is called the i-th of `vars`, in the order of first
 /// occurrence in the rule's text.

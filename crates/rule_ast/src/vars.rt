@@ -1,12 +1,12 @@
 // The variables of patterns.
 ghost use Rattle.std.specs.Prelude.{◌≡◌, ℕ, ◌||◌};
 ghost use Rattle.std.specs.List.{flat_map};
-ghost use Rattle.ev_term.specs.SlotSets.{slot_in};
+ghost use Rattle.event_model.specs.SlotSets.{slot_in};
 ghost use Rattle.rule_ast.specs.Plain.{plain_pattern};
 ghost use Rattle.rule_ast.specs.Vars.{slots_of, vars, is_in};
 
 use crate::patterns::Pattern;
-use ev_term::{Pat, Slots};
+use event_model::{Pat, Slots};
 
 #[cycle(slots)]
 #[tactic(auto, using(crate::specs::Vars::slot_lists))]

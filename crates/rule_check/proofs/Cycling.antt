@@ -8,10 +8,10 @@ use Rattle.std.proofs.Math.Logic.{⊎_elim}
 use Rattle.std.proofs.lemmas.Bool.{true≢false, or_left, or_right, or_cases}
 use Rattle.std.proofs.lemmas.List.{length-map}
 use Rattle.ordered_lists.specs.Canon.{has, has-append}
-use Rattle.ev_term.specs.declared.atoms.NameArity.{NameArity}
+use Rattle.event_model.specs.declared.atoms.NameArity.{NameArity}
 use Rattle.rule_ast.specs.Trees.{PlainRule}
 use Rattle.rule_ast.specs.Vars.{is_in}
-use Rattle.ev_term.specs.EventOrder.{name_cmp, exact_names, same_names}
+use Rattle.event_model.specs.EventOrder.{name_cmp, exact_names, same_names}
 use Rattle.rule_check.specs.Names.{head_name, head_names, body_names}
 use Rattle.rule_check.specs.Graphs.{Reaches, stop, step, HasCycle, greatest, leads, IsRankList}
 use Rattle.rule_check.specs.Marking.{AnyReaches}

@@ -1,7 +1,7 @@
 -- Sets of slots in place of the tests of the definitions.
 use Rattle.std.proofs.Common.{◌≡◌, ℕ, ◌||◌, ◌&&◌, Option, Some, List, ◌++◌, ap, sym, ◌∙◌}
 use Rattle.std.specs.Option.{option_or}
-use Rattle.ev_term.specs.SlotSets.{slot_in}
+use Rattle.event_model.specs.SlotSets.{slot_in}
 use Rattle.rule_ast.specs.Trees.{PlainPattern, Either, Not}
 use Rattle.rule_ast.specs.Vars.{vars, is_in}
 use Rattle.rule_check.specs.Offenders.{first, among, outside, or_offenders, not_offenders}

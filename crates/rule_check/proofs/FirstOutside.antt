@@ -6,8 +6,8 @@ use Rattle.std.proofs.lemmas.Bool.{true≢false}
 use Rattle.std.proofs.lemmas.List.{take_more, take-append-drop}
 use Rattle.std.proofs.lemmas.List.Concat.{flat_map-append}
 use Rattle.std.proofs.lemmas.List.Elements.{filter-append}
-use Rattle.ev_term.specs.declared.terms.Pat.{Pat}
-use Rattle.ev_term.specs.SlotSets.{slot_in}
+use Rattle.event_model.specs.declared.terms.Pat.{Pat}
+use Rattle.event_model.specs.SlotSets.{slot_in}
 use Rattle.rule_ast.specs.Vars.{slots_of, slot_lists}
 use Rattle.rule_check.specs.Offenders.{first, outside}
 use Rattle.rule_check.specs.Allowed.{allowed}

@@ -4,8 +4,8 @@ use Rattle.std.specs.List.{list_all}
 use Rattle.std.proofs.lemmas.Bool.{and_parts}
 use Rattle.std.proofs.lemmas.List.{take_more, take-append-drop, map-append}
 use Rattle.ordered_lists.specs.Canon.{has}
-use Rattle.ev_term.specs.declared.atoms.NameArity.{NameArity}
-use Rattle.ev_term.specs.EventOrder.{name_cmp}
+use Rattle.event_model.specs.declared.atoms.NameArity.{NameArity}
+use Rattle.event_model.specs.EventOrder.{name_cmp}
 use Rattle.rule_ast.specs.declared.statements.Statement.{Statement}
 use Rattle.rule_ast.specs.declared.statements.Rule.{Rule}
 use Rattle.rule_ast.specs.Trees.{PlainRule, PlainStatement, Clause, Show}

@@ -7,8 +7,8 @@ use Rattle.std.proofs.lemmas.Bool.{true≢false, cases_lt, or_left, or_right}
 use Rattle.std.proofs.lemmas.List.{length-map, get_or-map, get_or_past}
 use Rattle.std.proofs.lemmas.List.Concat.{flat_map-append}
 use Rattle.ordered_lists.specs.Canon.{has}
-use Rattle.ev_term.specs.declared.atoms.NameArity.{NameArity}
-use Rattle.ev_term.specs.EventOrder.{name_cmp, same_names}
+use Rattle.event_model.specs.declared.atoms.NameArity.{NameArity}
+use Rattle.event_model.specs.EventOrder.{name_cmp, same_names}
 use Rattle.rule_ast.specs.Trees.{PlainRule}
 use Rattle.rule_ast.specs.Vars.{is_in, is_in-none}
 use Rattle.rule_check.specs.Names.{head_name, head_names, body_names}

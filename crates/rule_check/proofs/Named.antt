@@ -4,12 +4,12 @@ use Rattle.std.specs.List.{list_all, flat_map, filter}
 use Rattle.std.proofs.lemmas.Bool.{and_parts, and_from, true≢false}
 use Rattle.std.proofs.lemmas.Bool.Decides.{Decides-ltb}
 use Rattle.std.proofs.lemmas.List.Folds.{list_all-append}
-use Rattle.ev_term.specs.declared.terms.Pat.{Pat, out-Pat, roll-Pat, out-roll-Pat}
-use Rattle.ev_term.specs.declared.terms.Pat.TheOpen.{Pat-F}
-use Rattle.ev_term.specs.declared.terms.Pat.TheOpen.Pat-F.{Var, Any, Num, Sym, Text, Comp}
-use Rattle.ev_term.specs.declared.terms.Pat.TheFolds.{fold_out-Pat, map-Pat}
-use Rattle.ev_term.specs.declared.atoms.PatAtom.{PatAtom}
-use Rattle.ev_term.proofs.Layers.{Each, args_of, by_layers}
+use Rattle.event_model.specs.declared.terms.Pat.{Pat, out-Pat, roll-Pat, out-roll-Pat}
+use Rattle.event_model.specs.declared.terms.Pat.TheOpen.{Pat-F}
+use Rattle.event_model.specs.declared.terms.Pat.TheOpen.Pat-F.{Var, Any, Num, Sym, Text, Comp}
+use Rattle.event_model.specs.declared.terms.Pat.TheFolds.{fold_out-Pat, map-Pat}
+use Rattle.event_model.specs.declared.atoms.PatAtom.{PatAtom}
+use Rattle.event_model.proofs.Layers.{Each, args_of, by_layers}
 use Rattle.rule_ast.specs.Trees.{PlainCond, Value, Calculate, Compare, AndAlso, OrElse, Negate, PlainPattern, Atom, Both, Either, Where, Exact, Within, Not, PlainRule}
 use Rattle.rule_ast.specs.Shaped.{parts_pass, passes, is_argument, is_variable, is_ground, is_head_argument, is_shaped_cond, is_shaped_atom, is_shaped_pattern, is_shaped_head, is_shaped_rule, names_differ, is_length}
 use Rattle.rule_ast.specs.Vars.{slots_of, slots_step, slots_at, atom_vars, vars, is_in}

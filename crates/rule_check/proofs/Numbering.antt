@@ -7,8 +7,8 @@ use Rattle.std.proofs.Math.Bool.{or_assoc, or-false}
 use Rattle.std.proofs.lemmas.Bool.{true≢false, and_parts}
 use Rattle.std.proofs.lemmas.List.{map-append, length-map}
 use Rattle.ordered_lists.specs.Canon.{has, has-append, canon, canon_same}
-use Rattle.ev_term.specs.declared.atoms.NameArity.{NameArity}
-use Rattle.ev_term.specs.EventOrder.{name_cmp, exact_names, same_names}
+use Rattle.event_model.specs.declared.atoms.NameArity.{NameArity}
+use Rattle.event_model.specs.EventOrder.{name_cmp, exact_names, same_names}
 use Rattle.rule_ast.specs.Trees.{PlainRule}
 use Rattle.rule_ast.specs.Shaped.{is_shaped_rule, is_shaped_head, is_shaped_pattern, is_head_argument, names_differ}
 use Rattle.rule_check.specs.Gathered.{AreShaped}

@@ -9,8 +9,8 @@ use Rattle.std.proofs.lemmas.Bool.{true≢false, or_left, or_right, or_cases}
 use Rattle.std.proofs.lemmas.Bool.Decides.{Decides-eqb}
 use Rattle.std.proofs.lemmas.List.Elements.{filter_map-append}
 use Rattle.ordered_lists.specs.Canon.{has}
-use Rattle.ev_term.specs.declared.atoms.NameArity.{NameArity}
-use Rattle.ev_term.specs.EventOrder.{name_cmp, exact_names, same_names}
+use Rattle.event_model.specs.declared.atoms.NameArity.{NameArity}
+use Rattle.event_model.specs.EventOrder.{name_cmp, exact_names, same_names}
 use Rattle.rule_ast.specs.Vars.{is_in, is_in-none, is_in-cons}
 use Rattle.rule_check.specs.Numbers.{place, places}
 

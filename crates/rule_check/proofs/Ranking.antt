@@ -3,8 +3,8 @@ use Rattle.std.proofs.Common.{◌≡◌, ℕ, zero, suc, ◌+◌, ◌<◌, ◌�
 use Rattle.std.specs.Ordering.{is_eq}
 use Rattle.std.proofs.lemmas.Bool.{or_right}
 use Rattle.ordered_lists.specs.Canon.{has}
-use Rattle.ev_term.specs.declared.atoms.NameArity.{NameArity}
-use Rattle.ev_term.specs.EventOrder.{name_cmp}
+use Rattle.event_model.specs.declared.atoms.NameArity.{NameArity}
+use Rattle.event_model.specs.EventOrder.{name_cmp}
 use Rattle.rule_ast.specs.Trees.{PlainRule}
 use Rattle.rule_check.specs.Names.{head_names}
 use Rattle.rule_check.specs.Graphs.{greatest, IsRankList}

@@ -3,11 +3,11 @@ use Rattle.std.proofs.Common.{◌≡◌, ℕ, ◌+◌, Bool, true, false, cond, 
 use Rattle.std.specs.Ordering.{is_eq}
 use Rattle.std.proofs.lemmas.Bool.{true≢false, or_left, or_right}
 use Rattle.ordered_lists.specs.Canon.{canon, has}
-use Rattle.ev_term.specs.declared.atoms.NameArity.{NameArity}
+use Rattle.event_model.specs.declared.atoms.NameArity.{NameArity}
 use Rattle.rule_ast.specs.Trees.{PlainRule, PlainStatement, Clause, Show}
 use Rattle.rule_check.specs.Offenders.{first}
 use Rattle.rule_check.specs.Sound.{rules_of}
-use Rattle.ev_term.specs.EventOrder.{name_cmp, same_names}
+use Rattle.event_model.specs.EventOrder.{name_cmp, same_names}
 use Rattle.rule_ast.specs.Shown.{shown_names}
 use Rattle.rule_check.specs.Names.{head_names, has_show, outputs, unknown_shows, AreShownKnown}
 use Rattle.rule_check.specs.Graphs.{HasCycle, IsGraph, IsRankList}

@@ -4,9 +4,9 @@ use Rattle.std.proofs.Common.{arith}
 use Rattle.std.specs.List.{flat_map}
 use Rattle.std.specs.Ordering.{is_eq}
 use Rattle.ordered_lists.specs.Canon.{has}
-use Rattle.ev_term.specs.declared.atoms.NameArity.{NameArity}
+use Rattle.event_model.specs.declared.atoms.NameArity.{NameArity}
 use Rattle.rule_ast.specs.Trees.{PlainRule}
-use Rattle.ev_term.specs.EventOrder.{name_cmp}
+use Rattle.event_model.specs.EventOrder.{name_cmp}
 use Rattle.rule_check.specs.Names.{head_name, head_names, body_names}
 use Rattle.rule_check.specs.Graphs.{Reaches, greatest, targets}
 use Rattle.rule_check.specs.Numbers.{place, places}

@@ -1,9 +1,9 @@
 -- The names of rules: those that head rules, those that stand in bodies, and those that are shown.
 use Rattle.std.specs.Prelude.{ℕ, ◌≡◌, ◌+◌, Bool, true, false, cond, List, [], ◌∷◌, ◌++◌, length, map}
 use Rattle.ordered_lists.specs.Canon.{canon, has}
-use Rattle.ev_term.specs.EventOrder.{name_cmp}
-use Rattle.ev_term.specs.declared.atoms.PatAtom.{PatAtom}
-use Rattle.ev_term.specs.declared.atoms.NameArity.{NameArity}
+use Rattle.event_model.specs.EventOrder.{name_cmp}
+use Rattle.event_model.specs.declared.atoms.PatAtom.{PatAtom}
+use Rattle.event_model.specs.declared.atoms.NameArity.{NameArity}
 use Rattle.rule_ast.specs.Trees.{PlainPattern, Atom, Both, Either, Where, Exact, Within, Not, PlainRule, PlainStatement, Clause, Show}
 use Rattle.rule_ast.specs.Shown.{shown_names}
 use Rattle.rule_check.specs.Sound.{rules_of}

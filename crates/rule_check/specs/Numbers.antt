@@ -3,8 +3,8 @@ use Rattle.std.specs.Prelude.{ℕ, ◌≡◌, ◌<◌, ◌^◌, true, cond, suc,
 use Rattle.std.specs.List.{IsDistinct, filter_map}
 use Rattle.std.specs.Ordering.{is_eq, eq_by_cmp}
 use Rattle.ordered_lists.specs.Canon.{has}
-use Rattle.ev_term.specs.declared.atoms.NameArity.{NameArity}
-use Rattle.ev_term.specs.EventOrder.{name_cmp}
+use Rattle.event_model.specs.declared.atoms.NameArity.{NameArity}
+use Rattle.event_model.specs.EventOrder.{name_cmp}
 
 -- a name at the end of a list, where it isn't in it
 abbrev pub with_seen : List NameArity → NameArity → List NameArity

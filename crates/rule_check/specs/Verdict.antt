@@ -1,6 +1,6 @@
 -- When rules are sound, which fault they are refused with, and what is kept of sound rules.
 use Rattle.std.specs.Prelude.{ℕ, ◌≡◌, ◌⊎◌, Some, List, [], ◌++◌, length, map}
-use Rattle.ev_term.specs.declared.atoms.NameArity.{NameArity}
+use Rattle.event_model.specs.declared.atoms.NameArity.{NameArity}
 use Rattle.rule_ast.specs.Shaped.{IsShaped}
 use Rattle.rule_ast.specs.Trees.{PlainRule, PlainStatement}
 use Rattle.rule_check.specs.Offenders.{first}

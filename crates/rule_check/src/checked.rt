@@ -8,7 +8,7 @@ ghost use Rattle.rule_check.specs.Sound.{rules_of};
 ghost use Rattle.rule_check.specs.Verdict.{IsSound, IsChecked};
 
 use crate::numbers::{Numbers, rank_in};
-use ev_term::NameArity;
+use event_model::NameArity;
 use rule_ast::RuleSet;
 use std::marker::Model;
 

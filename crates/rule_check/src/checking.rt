@@ -1,7 +1,7 @@
 // The check of rules.
 ghost use Rattle.std.specs.Prelude.{◌≡◌, ◌<◌, ◌^◌, ◌⊎◌, ℕ, length, map, IsOk, IfOk, IfErr};
 ghost use Rattle.ordered_lists.specs.Canon.{canon};
-ghost use Rattle.ev_term.specs.EventOrder.{name_cmp};
+ghost use Rattle.event_model.specs.EventOrder.{name_cmp};
 ghost use Rattle.rule_ast.specs.Plain.{plain_rules, plain_statement};
 ghost use Rattle.rule_ast.specs.Shaped.{IsShaped};
 ghost use Rattle.rule_ast.specs.Shown.{shown_names};
@@ -20,13 +20,13 @@ use crate::gathering::{has_show, push_names, rules_of, shown_names, unknown_show
 use crate::graph::ranks_of;
 use crate::numbers::{Numbers, heads_of};
 use crate::variables::check_variables;
-use ev_term::NameArity;
+use event_model::NameArity;
 use ordered_lists::sort_unique;
 use rule_ast::{Rule, RuleSet, Statement};
 use std::alloc::{AllocError, Global};
 
 // The names in order, each once.
-#[tactic(auto, using(ev_term::specs::EventOrder::exact_names))]
+#[tactic(auto, using(event_model::specs::EventOrder::exact_names))]
 fn in_order(names: Vec<NameArity>) -> Result<Vec<NameArity>, AllocError>
     ensures { IfOk result (λ v. v.items ≡ canon name_cmp names.items) }
 {

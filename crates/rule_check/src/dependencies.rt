@@ -2,8 +2,8 @@
 ghost use Rattle.std.specs.Prelude.{◌≡◌, ℕ, ◌++◌, List, [], Some, true, length, IfOk, OnOk};
 ghost use Rattle.std.specs.Bool.{Decides};
 ghost use Rattle.ordered_lists.specs.Canon.{has};
-ghost use Rattle.ev_term.specs.EventOrder.{name_cmp};
-ghost use Rattle.ev_term.specs.declared.atoms.NameArity.{NameArity};
+ghost use Rattle.event_model.specs.EventOrder.{name_cmp};
+ghost use Rattle.event_model.specs.declared.atoms.NameArity.{NameArity};
 ghost use Rattle.rule_ast.specs.Plain.{plain_pattern, plain_rule};
 ghost use Rattle.rule_ast.specs.Trees.{PlainRule};
 ghost use Rattle.rule_check.specs.Cycles.{graph_of, IsOnCycle, IsCycleAnswer, IsRowGrown};

@@ -1,5 +1,5 @@
 // Why rules are refused.
-use ev_term::Name;
+use event_model::Name;
 use std::alloc::AllocError;
 use std::fmt;
 use thiserror::Error;

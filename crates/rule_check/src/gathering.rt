@@ -8,7 +8,7 @@ ghost use Rattle.rule_check.specs.Offenders.{first};
 ghost use Rattle.rule_check.specs.Sound.{rules_of};
 
 use crate::numbers::Numbers;
-use ev_term::NameArity;
+use event_model::NameArity;
 use rule_ast::{Rule, Statement};
 use std::alloc::{AllocError, Global};
 

@@ -1,12 +1,12 @@
 // Names numbered in the order in which they are first seen.
 ghost use Rattle.std.specs.Prelude.{◌≡◌, [], length, Some, IfOk, OnOk, OnErr};
 ghost use Rattle.ordered_lists.specs.Canon.{has};
-ghost use Rattle.ev_term.specs.EventOrder.{name_cmp};
+ghost use Rattle.event_model.specs.EventOrder.{name_cmp};
 ghost use Rattle.rule_check.specs.Gathered.{rules_at, AreShaped};
 ghost use Rattle.rule_check.specs.Names.{head_names};
 ghost use Rattle.rule_check.specs.Numbers.{with_seen, first_seen, AreNarrow, place, rank_by};
 
-use ev_term::{Name, NameArity};
+use event_model::{Name, NameArity};
 use indexmap::IndexSet;
 use rule_ast::Rule;
 use std::alloc::{AllocError, Global};
@@ -20,7 +20,7 @@ pub(crate) struct Numbers {
 
 impl Model for Numbers {
     ghost use Rattle.std.specs.Prelude.{List};
-    ghost use Rattle.ev_term.specs.declared.atoms.NameArity.{NameArity};
+    ghost use Rattle.event_model.specs.declared.atoms.NameArity.{NameArity};
 
     ghost Value = { List NameArity };
 

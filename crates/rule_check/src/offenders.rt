@@ -1,12 +1,12 @@
 // The first variable of a pattern that stands where it may not.
 ghost use Rattle.std.specs.Prelude.{◌≡◌, ℕ, ◌&&◌};
-ghost use Rattle.ev_term.specs.SlotSets.{slot_in};
+ghost use Rattle.event_model.specs.SlotSets.{slot_in};
 ghost use Rattle.rule_ast.specs.Plain.{plain_pattern, plain_rule};
 ghost use Rattle.rule_check.specs.Allowed.{allowed};
 ghost use Rattle.rule_check.specs.Offenders.{first, head_offenders, where_offenders, or_offenders, not_offenders};
 
 use crate::outside::{outside_arguments, outside_condition};
-use ev_term::{Slot, Slots};
+use event_model::{Slot, Slots};
 use rule_ast::{Pattern, Rule, vars_of};
 
 // The first variable of a head that the body doesn't have.

@@ -6,7 +6,7 @@ ghost use Rattle.rule_ast.specs.Vars.{slots_of};
 ghost use Rattle.rule_check.specs.Allowed.{allowed};
 ghost use Rattle.rule_check.specs.Offenders.{first, outside, cond_vars};
 
-use ev_term::{Pat, Slot, Slots};
+use event_model::{Pat, Slot, Slots};
 use rule_ast::Cond;
 
 #[cycle(outside)]

@@ -7,7 +7,7 @@ ghost use Rattle.rule_check.specs.Gathered.{rules_at, AreShaped};
 
 use crate::faults::CheckFault;
 use crate::offenders::{head_offender, not_offender, or_offender, where_offender};
-use ev_term::{Name, Slot};
+use event_model::{Name, Slot};
 use rule_ast::Rule;
 use std::alloc::AllocError;
 

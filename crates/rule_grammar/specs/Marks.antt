@@ -2,7 +2,7 @@
 use Rattle.std.specs.Prelude.{ℕ, ◌+◌, cond, nat_lt, List, [], ◌∷◌, ◌++◌, length, Option, Some, None}
 use Rattle.std.specs.List.{list_any}
 use Rattle.std.specs.Str.{bytes_eq}
-use Rattle.ev_term.specs.declared.terms.TheConstants.{MOST_ARGUMENTS, MOST_DEPTH, MOST_SLOTS}
+use Rattle.event_model.specs.declared.terms.TheConstants.{MOST_ARGUMENTS, MOST_DEPTH, MOST_SLOTS}
 use Rattle.rule_ast.specs.declared.limits.TheConstants.{MOST_STATEMENTS, MOST_TICKS}
 use Rattle.rule_lexer.specs.declared.terminals.Terminal.{Terminal}
 use Rattle.rule_grammar.specs.declared.limits.TheConstants.{MOST_PARTS, MOST_BRACKETS}

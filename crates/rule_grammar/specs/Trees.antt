@@ -1,6 +1,6 @@
 -- Trees of the grammar's rules. Redundant brackets stand in them, and what groups to the left stands so.
 use Rattle.std.specs.Prelude.{ℕ, List}
-use Rattle.ev_term.specs.declared.operators.Op.{Op}
+use Rattle.event_model.specs.declared.operators.Op.{Op}
 use Rattle.rule_ast.specs.declared.conditions.Cmp.{Cmp}
 
 -- a term that is one word: digits; `-` and digits; `-` and the limit of numbers; a name; a text

@@ -5,7 +5,7 @@ use Rattle.std.specs.Prelude.{slice_range}
 use Rattle.std.proofs.lemmas.Bool.{and_parts, and_from, eqb-true}
 use Rattle.std.proofs.lemmas.Bool.Decides.{nat_tests}
 use Rattle.std.proofs.lemmas.List.{take_at}
-use Rattle.ev_term.specs.Text.{escape, quoted}
+use Rattle.event_model.specs.Text.{escape, quoted}
 use Rattle.rule_lexer.specs.declared.tokens.TokenKind.TheVariants.{Text}
 use Rattle.rule_lexer.specs.Spelling.{are_characters, is_character}
 use Rattle.rule_lexer.specs.Reading.{LongestOf, text_end}

@@ -2,8 +2,8 @@
 use Rattle.std.proofs.Common.{◌≡◌, ℕ, ◌<◌, ◌^◌, true, false, nat_lt, ◌==◌, List, refl, ap, arith}
 use Rattle.std.proofs.lemmas.Bool.{not-true, ltb-true}
 use Rattle.std.proofs.lemmas.Bool.Decides.{nat_tests}
-use Rattle.ev_term.specs.declared.operators.Op.{Op}
-use Rattle.ev_term.specs.declared.operators.Op.TheVariants as op
+use Rattle.event_model.specs.declared.operators.Op.{Op}
+use Rattle.event_model.specs.declared.operators.Op.TheVariants as op
 use Rattle.rule_ast.specs.declared.conditions.Cmp.{Cmp}
 use Rattle.rule_ast.specs.declared.conditions.Cmp.TheVariants as cmp
 use Rattle.rule_lexer.specs.declared.tokens.Word.TheVariants as words

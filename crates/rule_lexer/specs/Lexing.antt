@@ -1,8 +1,8 @@
 -- What the tokens of a whole text are, and where they begin.
 use Rattle.std.specs.Prelude.{◌≡◌, ℕ, ◌-◌, ◌^◌, ◌<◌, Bool, true, false, cond, if◌then◌else◌, ◌==◌, List, [], ◌∷◌, length, slice_range}
-use Rattle.ev_term.specs.declared.operators.Op.TheVariants as op
+use Rattle.event_model.specs.declared.operators.Op.TheVariants as op
 use Rattle.rule_ast.specs.declared.conditions.Cmp.TheVariants as cmp
-use Rattle.ev_term.specs.Bytes.{tab, feed, backslash}
+use Rattle.event_model.specs.Bytes.{tab, feed, backslash}
 use Rattle.rule_lexer.specs.SignBytes.{letter_n, letter_t}
 use Rattle.rule_lexer.specs.declared.tokens.TheConstants.{NUMBER_LIMIT}
 use Rattle.rule_lexer.specs.declared.tokens.TokenKind.{TokenKind}

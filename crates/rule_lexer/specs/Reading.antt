@@ -1,7 +1,7 @@
 -- How tokens are read, from the bytes that begin at a token's place.
 use Rattle.std.specs.Prelude.{ℕ, Bool, true, false, cond, ◌==◌, ◌≤◌, ◌<◌, List, [], ◌∷◌, length, take, drop, codes, Option, Some, None, Result, Ok, Err, suc, bytes_eq}
 use Rattle.std.specs.Char.{is_ascii_digit}
-use Rattle.ev_term.specs.Bytes.{bang, quote, open_round, close_round, plus, comma, minus, stop}
+use Rattle.event_model.specs.Bytes.{bang, quote, open_round, close_round, plus, comma, minus, stop}
 use Rattle.rule_lexer.specs.SignBytes.{percent, ampersand, star, slash, less, equal, greater, open_square, close_square, bar}
 use Rattle.rule_lexer.specs.declared.tokens.TokenKind.{TokenKind}
 use Rattle.rule_lexer.specs.declared.tokens.LexKind.{LexKind}

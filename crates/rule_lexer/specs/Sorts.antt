@@ -1,7 +1,7 @@
 -- What a byte may be in a token, and what bytes begin with.
 use Rattle.std.specs.Prelude.{ℕ, Bool, false, ◌==◌, ◌&&◌, ◌||◌, not, List, [], ◌∷◌}
 use Rattle.std.specs.Char.{is_ascii_lowercase, is_ascii_uppercase, is_ascii_alphanumeric}
-use Rattle.ev_term.specs.Bytes.{tab, feed, carriage_return, space, quote, underscore}
+use Rattle.event_model.specs.Bytes.{tab, feed, carriage_return, space, quote, underscore}
 use Rattle.rule_lexer.specs.SignBytes.{open_square}
 
 -- letters, digits and `_`

@@ -4,12 +4,12 @@ use Rattle.std.specs.Char.{is_ascii_digit, is_ascii_lowercase, is_ascii_uppercas
 use Rattle.std.specs.Fmt.{decimal}
 use Rattle.std.specs.List.{list_all}
 use Rattle.std.specs.Option.{is_none}
-use Rattle.ev_term.specs.Text.{quoted}
-use Rattle.ev_term.specs.declared.operators.Op.{Op}
-use Rattle.ev_term.specs.declared.operators.Op.TheVariants as op
+use Rattle.event_model.specs.Text.{quoted}
+use Rattle.event_model.specs.declared.operators.Op.{Op}
+use Rattle.event_model.specs.declared.operators.Op.TheVariants as op
 use Rattle.rule_ast.specs.declared.conditions.Cmp.{Cmp}
 use Rattle.rule_ast.specs.declared.conditions.Cmp.TheVariants as cmp
-use Rattle.ev_term.specs.Bytes.{tab, feed, space, minus}
+use Rattle.event_model.specs.Bytes.{tab, feed, space, minus}
 use Rattle.rule_lexer.specs.SignBytes.{equal}
 use Rattle.rule_lexer.specs.declared.tokens.TheConstants.{NUMBER_LIMIT}
 use Rattle.rule_lexer.specs.declared.tokens.TokenKind.{TokenKind}

@@ -12,7 +12,7 @@ use crate::tables::{mark_terminal, word_terminal};
 use crate::terminals::{Natural, Terminal};
 use crate::tokens::{NUMBER_LIMIT, Token, TokenKind};
 use crate::unescaping::unescaped;
-use ev_term::Name;
+use event_model::Name;
 use std::alloc::{AllocError, Global};
 
 /// The tokens of a text up to its end or to the first place where none begins.

@@ -4,7 +4,7 @@ ghost use Rattle.rule_lexer.specs.Lexing.{word_terminal, mark_terminal};
 
 use crate::terminals::Terminal;
 use crate::tokens::{Mark, Word};
-use ev_term::Op;
+use event_model::Op;
 use rule_ast::Cmp;
 
 pub(crate) fn word_terminal(word: Word) -> Terminal

@@ -1,7 +1,7 @@
 //! Tokens as the grammar of rule files sees them.
 
 use crate::tokens::NUMBER_LIMIT;
-use ev_term::{Name, Op};
+use event_model::{Name, Op};
 use rule_ast::Cmp;
 use std::marker::Model;
 

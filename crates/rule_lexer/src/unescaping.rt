@@ -3,7 +3,7 @@ ghost use Rattle.std.specs.Prelude.{◌≡◌, ◌<◌, true, false, IfOk, slice
 ghost use Rattle.rule_lexer.specs.Spelling.{are_characters};
 ghost use Rattle.rule_lexer.specs.Lexing.{escaped_byte, unescaped};
 
-use ev_term::Name;
+use event_model::Name;
 use std::alloc::{AllocError, Global};
 
 // What the byte behind a backslash stands for, where this stands behind it.

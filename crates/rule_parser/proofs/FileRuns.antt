@@ -1,14 +1,14 @@
 -- How runs go on over the tokens of heads and statements.
 use Rattle.std.proofs.Common.{◌≡◌, ℕ, ◌+◌, ◌<◌, ◌≤◌, List, [], ◌∷◌, ◌++◌, length, map, None, Err, refl, sym, ap, ◌∙◌, arith, subst, length-append}
 use Rattle.std.proofs.lemmas.List.{map-append}
-use Rattle.ev_term.specs.declared.atoms.PatAtom.{PatAtom}
-use Rattle.ev_term.specs.declared.atoms.NameArity.{NameArity}
+use Rattle.event_model.specs.declared.atoms.PatAtom.{PatAtom}
+use Rattle.event_model.specs.declared.atoms.NameArity.{NameArity}
 use Rattle.rule_ast.specs.Trees as plain
 use Rattle.rule_ast.specs.Trees.{PlainPattern, PlainRule, PlainStatement}
 use Rattle.rule_ast.specs.declared.statements.Statement as declared
 use Rattle.rule_ast.specs.Plain.{plain_statement}
-use Rattle.ev_term.specs.declared.terms.Pat.{Pat}
-use Rattle.ev_term.specs.declared.terms.Pat.TheVariants as pat
+use Rattle.event_model.specs.declared.terms.Pat.{Pat}
+use Rattle.event_model.specs.declared.terms.Pat.TheVariants as pat
 use Rattle.rule_lexer.specs.declared.terminals.Terminal.{Terminal}
 use Rattle.rule_lexer.specs.declared.terminals.Terminal.TheVariants as t
 use Rattle.rule_grammar.specs.declared.faults.Which.TheVariants as which

@@ -5,7 +5,7 @@ use Rattle.rule_ast.specs.Trees.{PlainCond, PlainPattern}
 use Rattle.rule_grammar.specs.Trees.{Joint, Joint.Joined, Joint.Otherwise}
 use Rattle.rule_parser.specs.declared.signs.Bound.{Bound}
 use Rattle.rule_parser.specs.declared.signs.Bound.TheVariants as bounds
-use Rattle.ev_term.specs.declared.terms.Pat.{Pat}
+use Rattle.event_model.specs.declared.terms.Pat.{Pat}
 use Rattle.rule_lexer.specs.declared.terminals.Terminal.{Terminal}
 use Rattle.rule_lexer.specs.declared.terminals.Terminal.TheVariants as t
 use Rattle.rule_grammar.specs.declared.faults.Which.TheVariants as which

@@ -2,18 +2,18 @@
 use Rattle.std.specs.Prelude.{◌≡◌, ℕ, ◌+◌, ◌<◌, ◌≤◌, Bool, true, false, List, [], ◌∷◌, ◌++◌, length, map, Option, Some, None, Result, Ok, Err}
 use Rattle.std.specs.Prelude.{Box}
 use Rattle.std.specs.Borrow.{Bor}
-use Rattle.ev_term.specs.declared.terms.TheConstants.{MOST_ARGUMENTS, MOST_SLOTS}
+use Rattle.event_model.specs.declared.terms.TheConstants.{MOST_ARGUMENTS, MOST_SLOTS}
 use Rattle.rule_ast.specs.declared.limits.TheConstants.{MOST_TICKS}
 use Rattle.rule_grammar.specs.declared.limits.TheConstants.{MOST_PARTS}
 use Rattle.rule_ast.specs.declared.patterns.Pattern.{Pattern}
-use Rattle.ev_term.specs.declared.atoms.PatAtom.{PatAtom}
-use Rattle.ev_term.specs.declared.atoms.NameArity.{NameArity}
+use Rattle.event_model.specs.declared.atoms.PatAtom.{PatAtom}
+use Rattle.event_model.specs.declared.atoms.NameArity.{NameArity}
 use Rattle.rule_ast.specs.declared.statements.Statement as declared
 use Rattle.rule_ast.specs.declared.statements.Rule.{Rule}
 use Rattle.rule_ast.specs.Trees.{PlainPattern, PlainStatement, Clause, Show}
 use Rattle.rule_ast.specs.Plain.{plain_pattern, plain_rule, plain_statement}
 use Rattle.std.specs.declared.vec.Vec.{Vec}
-use Rattle.ev_term.specs.declared.terms.Pat.{Pat}
+use Rattle.event_model.specs.declared.terms.Pat.{Pat}
 use Rattle.rule_lexer.specs.declared.terminals.Terminal.{Terminal}
 use Rattle.rule_lexer.specs.declared.terminals.Terminal.TheVariants as t
 use Rattle.rule_grammar.specs.declared.faults.Which.TheVariants as which

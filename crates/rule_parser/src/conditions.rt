@@ -15,7 +15,7 @@ use crate::signs::{
     take_scaling,
 };
 use crate::terms::{Kind, arguments_at, word_at};
-use ev_term::{Name, Pat, Pats};
+use event_model::{Name, Pat, Pats};
 use rule_ast::Cond;
 use rule_grammar::{MOST_BRACKETS, Which};
 use rule_lexer::Terminal;

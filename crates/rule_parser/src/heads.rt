@@ -10,7 +10,7 @@ use crate::faults::Stop;
 use crate::ledger::{Ledger, slot_of};
 use crate::signs::{Sign, expect, limit, skip, syntax, take_first};
 use crate::terms::{Kind, arguments_at, word_at};
-use ev_term::{MOST_ARGUMENTS, Name, Pat, PatAtom, Pats};
+use event_model::{MOST_ARGUMENTS, Name, Pat, PatAtom, Pats};
 use rule_grammar::Which;
 use rule_lexer::Terminal;
 use std::alloc::Global;

@@ -15,7 +15,7 @@ use crate::signs::{
     Bound, Joint, Sign, expect, limit, skip, syntax, take_bound, take_first, take_joint,
 };
 use crate::terms::{Kind, arguments_at};
-use ev_term::{Name, PatAtom, Pats};
+use event_model::{Name, PatAtom, Pats};
 use rule_ast::{MOST_TICKS, Pattern};
 use rule_grammar::{MOST_BRACKETS, Which};
 use rule_lexer::Terminal;

@@ -8,7 +8,7 @@ ghost use Rattle.rule_grammar.specs.declared.faults.Fault.TheVariants as fault;
 ghost use Rattle.rule_grammar.specs.declared.faults.Which.{Which};
 
 use crate::faults::Stop;
-use ev_term::Op;
+use event_model::Op;
 use rule_ast::{Calc, Cmp};
 use rule_grammar::{Fault, Which};
 use rule_lexer::Terminal;

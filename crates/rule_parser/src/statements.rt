@@ -10,7 +10,7 @@ use crate::heads::head_at;
 use crate::ledger::Ledger;
 use crate::patterns::pattern_at;
 use crate::signs::{Sign, expect, limit, skip, syntax, take_first};
-use ev_term::{MOST_ARGUMENTS, Name, NameArity};
+use event_model::{MOST_ARGUMENTS, Name, NameArity};
 use indexmap::IndexSet;
 use rule_ast::{MOST_STATEMENTS, Rule, Statement};
 use rule_grammar::Which;

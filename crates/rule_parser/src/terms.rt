@@ -1,14 +1,14 @@
 //! Terms, and lists of arguments.
 
 ghost use Rattle.std.specs.Prelude.{◌≡◌, ◌∷◌, ◌≤◌, List};
-ghost use Rattle.ev_term.specs.declared.terms.Pat.{Pat};
+ghost use Rattle.event_model.specs.declared.terms.Pat.{Pat};
 ghost use Rattle.rule_lexer.specs.declared.terminals.Terminal.TheVariants as made;
 ghost use Rattle.rule_parser.specs.Steps.{counted, Fine, same, Answer, ListAnswer, WordAnswer, NegativeAnswer, LeafAnswer, term_level, term_of};
 
 use crate::faults::Stop;
 use crate::ledger::{Ledger, slot_of};
 use crate::signs::{Sign, expect, limit, skip, syntax, take_first};
-use ev_term::{MOST_ARGUMENTS, MOST_DEPTH, Name, Pat, Pats};
+use event_model::{MOST_ARGUMENTS, MOST_DEPTH, Name, Pat, Pats};
 use rule_grammar::Which;
 use rule_lexer::Terminal;
 use std::alloc::Global;

@@ -5,7 +5,7 @@ use Rattle.std.specs.Fmt.{signed_decimal, digits}
 use Rattle.std.proofs.lemmas.Bool.{eqb-true}
 use Rattle.std.proofs.lemmas.List.{map-append, take_more, length-take-le}
 use Rattle.std.proofs.lemmas.List.Sums.{fold_push}
-use Rattle.ev_term.specs.declared.terms.Pat.{Pat}
+use Rattle.event_model.specs.declared.terms.Pat.{Pat}
 use Rattle.rule_lexer.specs.declared.terminals.Terminal.TheVariants as t
 use Rattle.rule_grammar.specs.Trees.{Term, Term.Lone, Arguments, Arguments.First, Arguments.Next, Literal, Literal.Digits, Literal.Minus, Literal.Least}
 use Rattle.rule_grammar.specs.Marks.{Marked, Role.Quiet, Role.Counts, Role.Deepens}

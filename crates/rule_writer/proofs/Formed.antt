@@ -5,10 +5,10 @@ use Rattle.std.proofs.lemmas.List.{map-append}
 use Rattle.std.proofs.lemmas.List.Sums.{fold_push}
 use Rattle.std.proofs.lemmas.List.Folds.{list_any-append}
 use Rattle.std.proofs.lemmas.Slice.Eq.{bytes_eq-Decides}
-use Rattle.ev_term.specs.declared.terms.Pat.{Pat, out-Pat}
-use Rattle.ev_term.specs.declared.terms.Pat.TheOpen.{Pat-F}
-use Rattle.ev_term.specs.declared.terms.Pat.TheVariants as pat
-use Rattle.ev_term.specs.declared.terms.Pat.TheFolds.{fold_out-Pat, map-Pat}
+use Rattle.event_model.specs.declared.terms.Pat.{Pat, out-Pat}
+use Rattle.event_model.specs.declared.terms.Pat.TheOpen.{Pat-F}
+use Rattle.event_model.specs.declared.terms.Pat.TheVariants as pat
+use Rattle.event_model.specs.declared.terms.Pat.TheFolds.{fold_out-Pat, map-Pat}
 use Rattle.rule_ast.specs.Trees.{PlainPattern}
 use Rattle.rule_lexer.specs.declared.terminals.Terminal.{Terminal}
 use Rattle.rule_lexer.specs.declared.terminals.Terminal.TheVariants as t

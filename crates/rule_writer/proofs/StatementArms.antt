@@ -3,7 +3,7 @@ use Rattle.std.proofs.Common.{◌≡◌, ℕ, ◌+◌, ◌<◌, ◌≤◌, List,
 use Rattle.std.specs.List.{fold}
 use Rattle.std.proofs.lemmas.List.{map-append, take_more, length-take-le}
 use Rattle.std.proofs.lemmas.List.Sums.{fold_push}
-use Rattle.ev_term.specs.declared.atoms.NameArity.{NameArity}
+use Rattle.event_model.specs.declared.atoms.NameArity.{NameArity}
 use Rattle.rule_ast.specs.declared.statements.Statement.{Statement}
 use Rattle.rule_ast.specs.Plain.{plain_statement}
 use Rattle.rule_ast.specs.Trees as plain

@@ -2,7 +2,7 @@
 -- of `<-`, of each operator between two operands, of `WHERE` and of `WITHIN`, behind `show`, and behind each comma between shown names;
 -- no other blank stands anywhere.
 use Rattle.std.specs.Prelude.{ℕ, List, [], ◌∷◌, map}
-use Rattle.ev_term.specs.Bytes.{feed, space}
+use Rattle.event_model.specs.Bytes.{feed, space}
 use Rattle.rule_ast.specs.Trees.{PlainStatement}
 use Rattle.rule_lexer.specs.declared.terminals.Terminal.{Terminal}
 use Rattle.rule_lexer.specs.declared.terminals.Terminal.TheVariants.{Arrow, Show, End}

@@ -1,12 +1,12 @@
 -- The canonical tree of what a rule file says: brackets stand only where a tighter level is wanted.
 use Rattle.std.specs.Prelude.{ℕ, ℤ, pos, negsuc, ◌+◌, ◌==◌, cond, List, [], map, get_or, Option, Some, None}
 use Rattle.std.specs.List.{fold}
-use Rattle.ev_term.specs.declared.terms.Pat.{Pat, out-Pat}
-use Rattle.ev_term.specs.declared.terms.Pat.TheOpen.{Pat-F}
-use Rattle.ev_term.specs.declared.terms.Pat.TheOpen.Pat-F.{Var, Any, Num, Sym, Text, Comp}
-use Rattle.ev_term.specs.declared.terms.Pat.TheFolds.{fold-Pat}
-use Rattle.ev_term.specs.declared.atoms.PatAtom.{PatAtom}
-use Rattle.ev_term.specs.declared.atoms.NameArity.{NameArity}
+use Rattle.event_model.specs.declared.terms.Pat.{Pat, out-Pat}
+use Rattle.event_model.specs.declared.terms.Pat.TheOpen.{Pat-F}
+use Rattle.event_model.specs.declared.terms.Pat.TheOpen.Pat-F.{Var, Any, Num, Sym, Text, Comp}
+use Rattle.event_model.specs.declared.terms.Pat.TheFolds.{fold-Pat}
+use Rattle.event_model.specs.declared.atoms.PatAtom.{PatAtom}
+use Rattle.event_model.specs.declared.atoms.NameArity.{NameArity}
 use Rattle.rule_ast.specs.declared.conditions.Calc.{Calc}
 use Rattle.rule_lexer.specs.declared.tokens.TheConstants.{NUMBER_LIMIT}
 use Rattle.rule_ast.specs.declared.conditions.Calc.TheVariants.{Add, Sub, Mul, Div, Rem}

@@ -1,10 +1,10 @@
 -- What writing tokens appends to a text.
 use Rattle.std.specs.Prelude.{ℕ, ◌≡◌, Bool, true, false, None, List, [], ◌∷◌, ◌++◌, map}
 use Rattle.std.specs.List.{fold}
-use Rattle.ev_term.specs.Bytes.{space}
-use Rattle.ev_term.specs.declared.terms.Pat.{Pat}
+use Rattle.event_model.specs.Bytes.{space}
+use Rattle.event_model.specs.declared.terms.Pat.{Pat}
 use Rattle.rule_lexer.specs.declared.terminals.Terminal.{Terminal}
-use Rattle.ev_term.specs.declared.atoms.NameArity.{NameArity}
+use Rattle.event_model.specs.declared.atoms.NameArity.{NameArity}
 use Rattle.rule_ast.specs.declared.conditions.Calc.{Calc}
 use Rattle.rule_ast.specs.declared.conditions.Calc.TheVariants.{Add, Sub, Mul, Div, Rem}
 use Rattle.rule_lexer.specs.declared.terminals.Terminal.TheVariants.{Var, Name, Number, Slash, Plus, Minus, Star, Percent}

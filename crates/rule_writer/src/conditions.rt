@@ -9,7 +9,7 @@ ghost use Rattle.rule_writer.specs.Writes.{Appends, condition_rank, calc_rank, c
 
 use crate::terms::{Place, write_term};
 use crate::texts::{write_if, write_str};
-use ev_term::Name;
+use event_model::Name;
 use rule_ast::{Calc, Cmp, Cond};
 use std::alloc::AllocError;
 

@@ -6,7 +6,7 @@ ghost use Rattle.rule_writer.specs.Writes.{Appends, all_head_terms};
 
 use crate::terms::{Place, write_slot_name, write_term};
 use crate::texts::write_str;
-use ev_term::{Name, Pat, PatAtom};
+use event_model::{Name, Pat, PatAtom};
 use std::alloc::AllocError;
 
 fn write_head_term(out: &mut Vec<u8>, names: &[Name], pat: &Pat) -> Result<(), AllocError>

@@ -10,7 +10,7 @@ ghost use Rattle.rule_writer.specs.Writes.{Appends, pattern_rank, between};
 use crate::conditions::{ConditionLevel, write_condition};
 use crate::terms::{Place, write_compound};
 use crate::texts::{write_if, write_number, write_str};
-use ev_term::{Name, Op};
+use event_model::{Name, Op};
 use rule_ast::Pattern;
 use std::alloc::AllocError;
 

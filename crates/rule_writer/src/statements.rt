@@ -10,7 +10,7 @@ ghost use Rattle.rule_writer.specs.Writes.{Appends, item_tokens, all_items};
 use crate::heads::write_head;
 use crate::patterns::{PatternLevel, write_pattern};
 use crate::texts::{write_number, write_str};
-use ev_term::NameArity;
+use event_model::NameArity;
 use rule_ast::{Rule, RuleSet, Statement};
 use std::alloc::{AllocError, Global};
 

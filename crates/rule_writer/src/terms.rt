@@ -5,7 +5,7 @@ ghost use Rattle.rule_writer.specs.Forms.{name_at};
 ghost use Rattle.rule_writer.specs.Writes.{Appends, slot_form_at, any_form_at, form_at, term_tokens, compound_at, all_arguments};
 
 use crate::texts::{write_quoted, write_signed, write_str};
-use ev_term::{Name, Pat, Slot};
+use event_model::{Name, Pat, Slot};
 use std::alloc::AllocError;
 
 /// Where a term stands: in an atom of a pattern, in a condition, or in a head.

@@ -1,10 +1,10 @@
 // Texts and numbers.
 ghost use Rattle.std.specs.Prelude.{◌≡◌, ◌++◌, OnOk, decimal};
 ghost use Rattle.std.specs.Fmt.{signed_decimal};
-ghost use Rattle.ev_term.specs.Text.{quoted};
+ghost use Rattle.event_model.specs.Text.{quoted};
 ghost use Rattle.rule_writer.specs.Writes.{when};
 
-use ev_term::{Name, Term, term_text};
+use event_model::{Name, Term, term_text};
 use itoa::Buffer;
 use std::alloc::AllocError;
 
@@ -38,7 +38,7 @@ pub(crate) fn write_signed(out: &mut Vec<u8>, n: i64) -> Result<(), AllocError>
 }
 
 // A text between quotes, with its escapes.
-#[tactic(auto, using(ev_term::specs::Text::texts))]
+#[tactic(auto, using(event_model::specs::Text::texts))]
 pub(crate) fn write_quoted(out: &mut Vec<u8>, text: &Name) -> Result<(), AllocError>
     ensures { OnOk result (out.new.items ≡ out.old.items ++ quoted text.now) }
 {

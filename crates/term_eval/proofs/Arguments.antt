@@ -5,16 +5,16 @@ use Rattle.std.specs.List.{list_all}
 use Rattle.std.specs.Ordering.{is_eq}
 use Rattle.std.specs.Str.{bytes_eq}
 use Rattle.std.proofs.lemmas.Bool.{true≢false, and_parts}
-use Rattle.ev_term.specs.TermOrder.{term_cmp_at}
-use Rattle.ev_term.specs.declared.terms.Term.{Term, out-Term, roll-Term, roll-out-Term, out-roll-Term}
-use Rattle.ev_term.specs.declared.terms.Term.TheOpen.{Term-F}
-use Rattle.ev_term.specs.declared.terms.Term.TheOpen.Term-F.{Num as TNum, Sym as TSym, Text as TText, Comp as TComp}
-use Rattle.ev_term.specs.declared.terms.Term.TheVariants as made
-use Rattle.ev_term.specs.declared.terms.Pat.{Pat, out-Pat, roll-Pat, out-roll-Pat}
-use Rattle.ev_term.specs.declared.terms.Pat.TheOpen.{Pat-F}
-use Rattle.ev_term.specs.declared.terms.Pat.TheOpen.Pat-F.{Var, Any, Num, Sym, Text, Comp}
-use Rattle.ev_term.specs.declared.terms.Pat.TheFolds.{map-Pat, fold_out-Pat}
-use Rattle.ev_term.proofs.Layers.{Each, args_of, by_layers}
+use Rattle.event_model.specs.TermOrder.{term_cmp_at}
+use Rattle.event_model.specs.declared.terms.Term.{Term, out-Term, roll-Term, roll-out-Term, out-roll-Term}
+use Rattle.event_model.specs.declared.terms.Term.TheOpen.{Term-F}
+use Rattle.event_model.specs.declared.terms.Term.TheOpen.Term-F.{Num as TNum, Sym as TSym, Text as TText, Comp as TComp}
+use Rattle.event_model.specs.declared.terms.Term.TheVariants as made
+use Rattle.event_model.specs.declared.terms.Pat.{Pat, out-Pat, roll-Pat, out-roll-Pat}
+use Rattle.event_model.specs.declared.terms.Pat.TheOpen.{Pat-F}
+use Rattle.event_model.specs.declared.terms.Pat.TheOpen.Pat-F.{Var, Any, Num, Sym, Text, Comp}
+use Rattle.event_model.specs.declared.terms.Pat.TheFolds.{map-Pat, fold_out-Pat}
+use Rattle.event_model.proofs.Layers.{Each, args_of, by_layers}
 use Rattle.ev_bind.specs.Bindings.{Pairs, value_at}
 use Rattle.ev_bind.specs.Matching.{instance, instance_step, instance_at}
 use Rattle.ev_bind.specs.Fits.{same, is_value, all_fit, is_compound, fits, fits_step, fits_at}

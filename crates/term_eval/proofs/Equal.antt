@@ -11,13 +11,13 @@ use Rattle.std.proofs.lemmas.Bool.{true≢false, and_parts}
 use Rattle.std.proofs.lemmas.Slice.Eq.{bytes_eq-Decides}
 use Rattle.ordered_lists.specs.Canon.{Exact}
 use Rattle.ordered_lists.specs.Orders.{exact_texts, exact_lists}
-use Rattle.ev_term.specs.TermOrder.{term_cmp, term_cmp_at, bytes_cmp, args_cmp, nums, syms, texts, comps, exact_terms}
-use Rattle.ev_term.specs.declared.terms.Term.{Term, out-Term, roll-Term, roll-out-Term, out-roll-Term}
-use Rattle.ev_term.specs.declared.terms.Term.TheOpen.{Term-F}
-use Rattle.ev_term.specs.declared.terms.Term.TheOpen.Term-F.{Num, Sym, Text, Comp}
-use Rattle.ev_term.specs.declared.terms.Term.TheVariants as made
-use Rattle.ev_term.specs.declared.terms.Pat.{Pat}
-use Rattle.ev_term.specs.declared.terms.Pat.TheVariants as pat
+use Rattle.event_model.specs.TermOrder.{term_cmp, term_cmp_at, bytes_cmp, args_cmp, nums, syms, texts, comps, exact_terms}
+use Rattle.event_model.specs.declared.terms.Term.{Term, out-Term, roll-Term, roll-out-Term, out-roll-Term}
+use Rattle.event_model.specs.declared.terms.Term.TheOpen.{Term-F}
+use Rattle.event_model.specs.declared.terms.Term.TheOpen.Term-F.{Num, Sym, Text, Comp}
+use Rattle.event_model.specs.declared.terms.Term.TheVariants as made
+use Rattle.event_model.specs.declared.terms.Pat.{Pat}
+use Rattle.event_model.specs.declared.terms.Pat.TheVariants as pat
 use Rattle.ev_bind.specs.Bindings.{Pairs}
 use Rattle.ev_bind.specs.Matching.{instance, instance-Var, instance-Any, instance-Num, instance-Sym, instance-Text, instance-Comp}
 use Rattle.ev_bind.specs.Fits.{same}

@@ -1,6 +1,6 @@
 -- The values that code works with, in plain form.
 use Rattle.std.specs.Prelude.{Option, option_map}
-use Rattle.ev_term.specs.declared.terms.Term.TheVariants as made
+use Rattle.event_model.specs.declared.terms.Term.TheVariants as made
 use Rattle.ev_bind.specs.Bindings.{Pairs}
 use Rattle.ev_bind.specs.Matching.{instance}
 use Rattle.term_eval.specs.declared.values.Value.{Value}

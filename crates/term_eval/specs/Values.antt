@@ -3,11 +3,11 @@
 --     holds c b        it is the truth value true
 use Rattle.std.specs.Prelude.{ℤ, pos, negsuc, ◌+ℤ◌, ◌-ℤ◌, ◌*ℤ◌, int_div, int_rem, int_lt, int_le, nat_lt, ◌^◌, Bool, false, cond, not, ◌&&◌, ◌||◌, Option, Some, None, is_some, option_map, option_and_then}
 use Rattle.std.specs.Ordering.{int_eq}
-use Rattle.ev_term.specs.declared.terms.Term.{Term, out-Term}
-use Rattle.ev_term.specs.declared.terms.Term.TheOpen.{Term-F}
-use Rattle.ev_term.specs.declared.terms.Term.TheOpen.Term-F.{Num, Sym, Text, Comp}
-use Rattle.ev_term.specs.declared.terms.Term.TheVariants as made
-use Rattle.ev_term.specs.declared.terms.Pat.{Pat}
+use Rattle.event_model.specs.declared.terms.Term.{Term, out-Term}
+use Rattle.event_model.specs.declared.terms.Term.TheOpen.{Term-F}
+use Rattle.event_model.specs.declared.terms.Term.TheOpen.Term-F.{Num, Sym, Text, Comp}
+use Rattle.event_model.specs.declared.terms.Term.TheVariants as made
+use Rattle.event_model.specs.declared.terms.Pat.{Pat}
 use Rattle.ev_bind.specs.Bindings.{Pairs, value_at}
 use Rattle.ev_bind.specs.Matching.{instance}
 use Rattle.ev_bind.specs.Fits.{same}

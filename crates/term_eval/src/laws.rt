@@ -1,7 +1,7 @@
 // What the definitions that contracts cite come to, in other words.
 ghost use Rattle.std.specs.Prelude.{◌≡◌, ◌↔◌, IsTrue};
-ghost use Rattle.ev_term.specs.declared.terms.Pat.{Pat};
-ghost use Rattle.ev_term.specs.declared.terms.Term.{Term};
+ghost use Rattle.event_model.specs.declared.terms.Pat.{Pat};
+ghost use Rattle.event_model.specs.declared.terms.Term.{Term};
 ghost use Rattle.ev_bind.specs.Bindings.{Pairs};
 ghost use Rattle.ev_bind.specs.Fits.{fits};
 ghost use Rattle.ev_bind.specs.Matching.{instance};

@@ -1,8 +1,8 @@
 // Whether two arguments are one term under a binding. No term is built.
 ghost use Rattle.std.specs.Prelude.{◌≡◌, pos, option_map};
 ghost use Rattle.std.specs.Str.{bytes_eq};
-ghost use Rattle.ev_term.specs.declared.terms.Pat.TheVariants as pat_made;
-ghost use Rattle.ev_term.specs.declared.terms.Term.TheVariants as made;
+ghost use Rattle.event_model.specs.declared.terms.Pat.TheVariants as pat_made;
+ghost use Rattle.event_model.specs.declared.terms.Term.TheVariants as made;
 ghost use Rattle.ev_bind.specs.Matching.{instance};
 ghost use Rattle.ev_bind.specs.Fits.{same};
 ghost use Rattle.term_eval.specs.Values.{terms};
@@ -11,7 +11,7 @@ ghost use Rattle.term_eval.specs.Alike.{each_with};
 
 use crate::values::{Value, argument_number, term_number};
 use ev_bind::Binding;
-use ev_term::{Name, Pat, Slot, Term, cmp_terms};
+use event_model::{Name, Pat, Slot, Term, cmp_terms};
 
 fn same_names(x: &Name, y: &Name) -> bool
     ensures { result ≡ bytes_eq x.now y.now }

@@ -1,13 +1,13 @@
 // What a value is.
 ghost use Rattle.std.specs.Prelude.{◌≡◌};
-ghost use Rattle.ev_term.specs.declared.terms.Term.{out-Term};
+ghost use Rattle.event_model.specs.declared.terms.Term.{out-Term};
 ghost use Rattle.ev_bind.specs.Bindings.{Pairs};
 ghost use Rattle.ev_bind.specs.Matching.{instance};
 ghost use Rattle.term_eval.specs.Values.{number_at, number_in, truth_in, numbers, truths};
 ghost use Rattle.term_eval.specs.Operands.{plain_value};
 
 use ev_bind::Binding;
-use ev_term::{Pat, Term};
+use event_model::{Pat, Term};
 
 /// The value of a condition: a truth value, a number, or the term that the binding makes of an argument in the condition.
 #[derive(Clone, Copy)]

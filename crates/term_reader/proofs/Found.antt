@@ -1,8 +1,8 @@
 -- Nothing of the grammar is refused: a tree that stands at a place is read there.
 use Rattle.std.proofs.Common.{◌≡◌, ℕ, ◌+◌, ◌-◌, ◌≤◌, true, false, List, [], ◌∷◌, ◌++◌, length, drop, Option, Some, None, option_and_then, Result, Ok, Err, refl, sym, ap, ◌∙◌, arith, subst, length-drop, take-append-drop}
 use Rattle.std.proofs.lemmas.List.{drop-drop}
-use Rattle.ev_term.specs.declared.terms.Term.{Term}
-use Rattle.ev_term.specs.declared.atoms.Atom.{Atom}
+use Rattle.event_model.specs.declared.terms.Term.{Term}
+use Rattle.event_model.specs.declared.atoms.Atom.{Atom}
 use Rattle.term_reader.specs.declared.faults.TermFault.{TermFault}
 use Rattle.term_reader.specs.declared.signs.Sign.{Sign}
 use Rattle.term_reader.specs.Signs.{sign_of, signs}

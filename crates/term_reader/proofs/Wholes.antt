@@ -1,7 +1,7 @@
 -- Whole terms and atoms, and what their runs say of the bytes.
 use Rattle.std.proofs.Common.{◌≡◌, ℕ, ◌+◌, ◌≤◌, Bool, true, false, List, [], ◌∷◌, ◌++◌, length, drop, None, Result, Ok, Err, refl, sym, ap, ◌∙◌, arith, subst, length-append, length-drop}
-use Rattle.ev_term.specs.declared.terms.Term.{Term}
-use Rattle.ev_term.specs.declared.atoms.Atom.{Atom}
+use Rattle.event_model.specs.declared.terms.Term.{Term}
+use Rattle.event_model.specs.declared.atoms.Atom.{Atom}
 use Rattle.term_reader.specs.declared.faults.TermFault.{TermFault}
 use Rattle.term_reader.specs.declared.faults.TermFault.TheVariants.{Syntax, TooDeep, TooWide, NumberRange, Memory}
 use Rattle.term_reader.specs.declared.signs.Sign.{Sign}

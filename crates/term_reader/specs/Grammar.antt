@@ -1,7 +1,7 @@
 -- Terms as they are written: trees of the grammar, the signs and the value of a tree, and which trees are within the limits.
 use Rattle.std.specs.Prelude.{◌≡◌, ◌≢◌, length, ℕ, ◌+◌, ◌*◌, ◌^◌, ◌-◌, ◌≤◌, Bool, true, false, List, [], ◌∷◌, ◌++◌, nat_le, nat_lt, zero, suc, ℤ, pos, negsuc, take, drop, ◌==◌, ◌&&◌, Result, Ok, Err}
-use Rattle.ev_term.specs.Bytes.{open_round, comma, digit_0, digit_9}
-use Rattle.ev_term.specs.declared.terms.TheConstants.{MOST_ARGUMENTS, MOST_DEPTH}
+use Rattle.event_model.specs.Bytes.{open_round, comma, digit_0, digit_9}
+use Rattle.event_model.specs.declared.terms.TheConstants.{MOST_ARGUMENTS, MOST_DEPTH}
 use Rattle.term_reader.specs.declared.numbers.TheConstants.{NUMBER_LIMIT}
 use Rattle.term_reader.specs.declared.signs.Sign.{Sign}
 use Rattle.term_reader.specs.declared.signs.Sign.TheVariants.{Space, Tab, Digit, Lower, Upper, Open, Close, Comma, Quote, Backslash, Minus, High}
@@ -9,9 +9,9 @@ use Rattle.term_reader.specs.declared.signs.Status.{Status}
 use Rattle.term_reader.specs.declared.faults.TermFault.{TermFault}
 use Rattle.term_reader.specs.declared.faults.TermFault.TheVariants.{Syntax, TooDeep, TooWide, NumberRange, Memory}
 use Rattle.term_reader.specs.Signs.{byte_of, signs, is_plain, is_escape, escaped, status_first, status_more, is_whole}
-use Rattle.ev_term.specs.declared.terms.Term.{Term}
-use Rattle.ev_term.specs.declared.terms.Term.TheVariants as made
-use Rattle.ev_term.specs.declared.atoms.Atom.{Atom}
+use Rattle.event_model.specs.declared.terms.Term.{Term}
+use Rattle.event_model.specs.declared.terms.Term.TheVariants as made
+use Rattle.event_model.specs.declared.atoms.Atom.{Atom}
 
 -- Each list grows at its end, as it is read.
 

@@ -1,14 +1,14 @@
 -- Which terms and atoms are within the limits, and what may stand behind a canonical text.
 use Rattle.std.specs.Prelude.{◌≡◌, ℕ, ◌+◌, Bool, true, false, cond, ◌&&◌, ◌||◌, ◌==◌, nat_lt, nat_le, List, [], ◌∷◌, ◌++◌, length, map, drop, ℤ, pos, negsuc, Result, Ok, Err}
 use Rattle.std.proofs.Common.{ap, ◌∙◌}
-use Rattle.ev_term.specs.declared.terms.Term.{Term, out-Term}
-use Rattle.ev_term.specs.declared.terms.Term.TheOpen.{Term-F}
-use Rattle.ev_term.specs.declared.terms.Term.TheOpen.Term-F.{Num, Sym, Text, Comp}
-use Rattle.ev_term.specs.declared.terms.Term.TheFolds.{fold-Term, fold_out-Term, map-Term}
-use Rattle.ev_term.specs.declared.atoms.Atom.{Atom}
-use Rattle.ev_term.specs.Text.{term_text, atom_text}
-use Rattle.ev_term.specs.Bytes.{tab, feed, space}
-use Rattle.ev_term.specs.declared.terms.TheConstants.{MOST_ARGUMENTS, MOST_DEPTH}
+use Rattle.event_model.specs.declared.terms.Term.{Term, out-Term}
+use Rattle.event_model.specs.declared.terms.Term.TheOpen.{Term-F}
+use Rattle.event_model.specs.declared.terms.Term.TheOpen.Term-F.{Num, Sym, Text, Comp}
+use Rattle.event_model.specs.declared.terms.Term.TheFolds.{fold-Term, fold_out-Term, map-Term}
+use Rattle.event_model.specs.declared.atoms.Atom.{Atom}
+use Rattle.event_model.specs.Text.{term_text, atom_text}
+use Rattle.event_model.specs.Bytes.{tab, feed, space}
+use Rattle.event_model.specs.declared.terms.TheConstants.{MOST_ARGUMENTS, MOST_DEPTH}
 use Rattle.term_reader.specs.declared.signs.TheConstants.{ASCII_LIMIT}
 use Rattle.term_reader.specs.declared.numbers.TheConstants.{NUMBER_LIMIT}
 use Rattle.term_reader.specs.declared.faults.TermFault.{TermFault}

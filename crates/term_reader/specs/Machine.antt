@@ -1,6 +1,6 @@
 -- A machine that reads a tree sign by sign. A state is what has been read, held as trees.
 use Rattle.std.specs.Prelude.{ℕ, ◌+◌, Bool, true, false, List, ◌∷◌, cond, Option, Some, None}
-use Rattle.ev_term.specs.declared.terms.TheConstants.{MOST_ARGUMENTS, MOST_DEPTH}
+use Rattle.event_model.specs.declared.terms.TheConstants.{MOST_ARGUMENTS, MOST_DEPTH}
 use Rattle.term_reader.specs.declared.signs.Sign.{Sign}
 use Rattle.term_reader.specs.declared.signs.Sign.TheVariants.{Space, Tab, Digit, Lower, Upper, Open, Close, Comma, Quote, Backslash, Minus, High}
 use Rattle.term_reader.specs.declared.signs.Status.{Status}

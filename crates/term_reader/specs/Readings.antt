@@ -2,10 +2,10 @@
 use Rattle.std.specs.Prelude.{◌≡◌, ℕ, ◌+◌, ◌-◌, ◌<◌, ◌≤◌, Bool, true, false, List, [], ◌∷◌, ◌++◌, length, drop, Option, Some, None, Result, Ok, Err, IsUtf8}
 use Rattle.std.specs.declared.alloc.Global.{Global}
 use Rattle.std.specs.declared.vec.Vec.{Vec}
-use Rattle.ev_term.specs.declared.terms.Term.{Term}
-use Rattle.ev_term.specs.declared.atoms.Atom.{Atom}
-use Rattle.ev_term.specs.declared.terms.Term.TheVariants as made
-use Rattle.ev_term.specs.declared.terms.TheConstants.{MOST_ARGUMENTS}
+use Rattle.event_model.specs.declared.terms.Term.{Term}
+use Rattle.event_model.specs.declared.atoms.Atom.{Atom}
+use Rattle.event_model.specs.declared.terms.Term.TheVariants as made
+use Rattle.event_model.specs.declared.terms.TheConstants.{MOST_ARGUMENTS}
 use Rattle.term_reader.specs.declared.numbers.TheConstants.{NUMBER_LIMIT}
 use Rattle.term_reader.specs.declared.faults.TermFault.{TermFault}
 use Rattle.term_reader.specs.declared.faults.TermFault.TheVariants.{Syntax, TooDeep, TooWide, NumberRange, Memory}

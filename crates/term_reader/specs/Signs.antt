@@ -1,6 +1,6 @@
 -- What a byte is to the grammars of terms and lines, and which bytes are a character.
 use Rattle.std.specs.Prelude.{ℕ, ◌+◌, ◌<◌, ◌-◌, zero, suc, Bool, true, false, List, [], ◌∷◌, map, cond, ◌==◌, nat_lt, nat_le, ◌&&◌, ◌||◌}
-use Rattle.ev_term.specs.Bytes.{tab, feed, space, quote, open_round, close_round, plus, comma, minus, digit_0, digit_9, backslash, underscore}
+use Rattle.event_model.specs.Bytes.{tab, feed, space, quote, open_round, close_round, plus, comma, minus, digit_0, digit_9, backslash, underscore}
 use Rattle.term_reader.specs.declared.signs.TheConstants.{ASCII_LIMIT}
 use Rattle.term_reader.specs.declared.signs.Sign.{Sign}
 use Rattle.term_reader.specs.declared.signs.Sign.TheVariants.{Space, Tab, Digit, Lower, Upper, Open, Close, Comma, Quote, Backslash, Minus, Plus, Control, High, Other}

@@ -8,7 +8,7 @@ use crate::faults::TermFault;
 use crate::peeking::{is_blank_at, is_name_at, opens};
 use crate::trees::{args_at, tree_at};
 use crate::words::name_at;
-use ev_term::{Atom, Shared, Term};
+use event_model::{Atom, Shared, Term};
 use std::alloc::Global;
 
 /// Reads the term that stands at a place, and gives the place behind it. A name and a number take as many bytes as they can,

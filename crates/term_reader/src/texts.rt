@@ -6,7 +6,7 @@ ghost use Rattle.term_reader.specs.Readings.{SignAt, LetterAt, TextAt, MaybeHigh
 use crate::faults::TermFault;
 use crate::peeking::sign_at;
 use crate::signs::{Need, Sign, Status, next_status, status_first};
-use ev_term::Name;
+use event_model::Name;
 use std::alloc::{AllocError, Global};
 
 // The text of these bytes.

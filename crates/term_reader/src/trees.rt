@@ -9,7 +9,7 @@ use crate::peeking::{Mark, blanks_end, mark_at, opens, sign_at};
 use crate::signs::Sign;
 use crate::texts::text_at;
 use crate::words::name_at;
-use ev_term::{MOST_ARGUMENTS, MOST_DEPTH, Shared, Term};
+use event_model::{MOST_ARGUMENTS, MOST_DEPTH, Shared, Term};
 use std::alloc::{AllocError, Global};
 
 // The rest of a number, behind its first digit.

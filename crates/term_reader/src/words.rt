@@ -5,7 +5,7 @@ ghost use Rattle.term_reader.specs.Readings.{WordRead, NameRead, begins, is_word
 
 use crate::peeking::sign_at;
 use crate::signs::Sign;
-use ev_term::Name;
+use event_model::Name;
 use std::alloc::{AllocError, Global};
 
 // The place behind the rest of a word.

@@ -1,5 +1,5 @@
 use Rattle.std.proofs.Common.{◌≡◌, List, true}
-use Rattle.ev_term.specs.declared.inputs.Input.{Input}
+use Rattle.event_model.specs.declared.inputs.Input.{Input}
 use Rattle.etalis_core.specs.StandsFor.{WorksFrom, rules_of, late_of, is_working, work_left}
 use Rattle.etalis_cli.proofs.replying.finish.Given as goal
 

@@ -1,8 +1,8 @@
 use Rattle.std.proofs.Common.{◌++◌, ◌≤◌, length, sym, ap, ◌∙◌, subst}
 use Rattle.std.proofs.lemmas.Result.{on_ok_weaker}
-use Rattle.ev_term.specs.Lines.{without_cr}
-use Rattle.ev_term.specs.Presence.{verdict}
-use Rattle.ev_term.specs.declared.inputs.Refusal.TheVariants.{Syntax}
+use Rattle.event_model.specs.Lines.{without_cr}
+use Rattle.event_model.specs.Presence.{verdict}
+use Rattle.event_model.specs.declared.inputs.Refusal.TheVariants.{Syntax}
 use Rattle.line_reader.specs.Cutting.{IsLine}
 use Rattle.event_reader.specs.Machine.{heard}
 use Rattle.etalis_core.specs.StandsFor.{StandsFor, rules_of, late_of}

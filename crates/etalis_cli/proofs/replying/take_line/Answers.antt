@@ -1,7 +1,7 @@
 use Rattle.std.proofs.Common.{◌++◌, sym, ap, ◌∙◌, subst}
 use Rattle.std.proofs.lemmas.Result.{on_ok_weaker}
-use Rattle.ev_term.specs.Presence.{Says, Fails, verdict}
-use Rattle.ev_term.specs.declared.inputs.Refusal.TheVariants.{Syntax}
+use Rattle.event_model.specs.Presence.{Says, Fails, verdict}
+use Rattle.event_model.specs.declared.inputs.Refusal.TheVariants.{Syntax}
 use Rattle.event_reader.specs.Machine.{heard}
 use Rattle.event_reader.proofs.LineLaws.{heard_short}
 use Rattle.etalis_core.specs.StandsFor.{StandsFor, rules_of, late_of}

@@ -1,5 +1,5 @@
 use Rattle.std.proofs.lemmas.Result.{on_ok_weaker}
-use Rattle.ev_term.specs.Lines.{without_cr}
+use Rattle.event_model.specs.Lines.{without_cr}
 use Rattle.etalis_cli.specs.Output.{after_line}
 use Rattle.etalis_cli.proofs.ServeLaws.{tail_some}
 use Rattle.etalis_cli.proofs.serving.last_text.Goals as goal

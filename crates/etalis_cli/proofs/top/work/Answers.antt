@@ -1,7 +1,7 @@
 use Rattle.std.specs.Prelude.{IfSome}
 use Rattle.flow_ports.specs.Flow.{Gives}
 use Rattle.rule_ast.specs.Plain.{plain_rules}
-use Rattle.ev_term.specs.Lines.{ended}
+use Rattle.event_model.specs.Lines.{ended}
 use Rattle.etalis_cli.specs.Output.{start, replies, out_text}
 use Rattle.etalis_cli.specs.Words.{form, plain_job}
 use Rattle.etalis_cli.specs.Run.{PartFor, OnTaken}

@@ -1,6 +1,6 @@
 use Rattle.std.proofs.Common.{◌≡◌, ◌+◌, drop}
 use Rattle.std.specs.List.{position_or_len}
-use Rattle.ev_term.specs.SlotSets.{slot_in}
+use Rattle.event_model.specs.SlotSets.{slot_in}
 use Rattle.ev_bind.proofs.projections.next_in.Given as goal
 
 -- all so far are out of the set

@@ -1,6 +1,6 @@
 use Rattle.std.proofs.Common.{◌∙◌, sym, ap, arith}
 use Rattle.std.specs.Ordering.{is_eq}
-use Rattle.ev_term.specs.SlotSets.{slot_in}
+use Rattle.event_model.specs.SlotSets.{slot_in}
 use Rattle.ev_bind.specs.Bindings.{pair_cmp}
 use Rattle.ev_bind.proofs.Projecting.{right_over, next_differ, next_same, left_over}
 use Rattle.ev_bind.proofs.projections.same_in.Goals as goal

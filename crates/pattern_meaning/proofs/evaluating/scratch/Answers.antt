@@ -1,7 +1,7 @@
 use Rattle.std.proofs.Common.{◌∙◌, ap}
 use Rattle.std.specs.List.{flat_map}
 use Rattle.ordered_lists.specs.Canon.{canon}
-use Rattle.ev_term.specs.EventOrder.{detection_cmp, exact_detections}
+use Rattle.event_model.specs.EventOrder.{detection_cmp, exact_detections}
 use Rattle.rule_ast.specs.Plain.{plain_rules}
 use Rattle.pattern_meaning.specs.Found.{of_name, with_rules}
 use Rattle.pattern_meaning.specs.Words.{words_of}

@@ -1,6 +1,6 @@
 use Rattle.std.proofs.Common.{◌≡◌, ℕ, ◌||◌, take}
 use Rattle.std.specs.List.{flat_map}
-use Rattle.ev_term.specs.SlotSets.{slot_in}
+use Rattle.event_model.specs.SlotSets.{slot_in}
 use Rattle.rule_ast.specs.Vars.{slots_of, is_in}
 use Rattle.rule_ast.proofs.vars.+slots.Given as goal
 

@@ -1,6 +1,6 @@
 use Rattle.std.proofs.Common.{rules, ◌+◌, ◌++◌, refl, ap, ◌∙◌, subst, take_all}
 use Rattle.std.specs.Fmt.{signed_decimal}
-use Rattle.ev_term.specs.Text.{quoted}
+use Rattle.event_model.specs.Text.{quoted}
 use Rattle.rule_grammar.specs.Trees.{Literal.Symbol, Literal.Quoted}
 use Rattle.rule_writer.specs.Forms.{number_form}
 use Rattle.rule_writer.specs.Writes.{Appends, all_arguments}

@@ -1,5 +1,5 @@
 use Rattle.std.proofs.Common.{◌++◌, ap, ◌∙◌}
-use Rattle.ev_term.specs.Lines.{without_cr}
+use Rattle.event_model.specs.Lines.{without_cr}
 use Rattle.etalis_cli.proofs.SessionLaws.{told}
 use Rattle.etalis_cli.proofs.session.Session.answer.Goals as goal
 

@@ -1,5 +1,5 @@
 use Rattle.std.proofs.Common.{not, refl, ap, ◌∙◌}
-use Rattle.ev_term.specs.Presence.{settled}
+use Rattle.event_model.specs.Presence.{settled}
 use Rattle.etalis_core.specs.StandsFor.{late_of}
 use Rattle.etalis_core.proofs.EngineLaws.{fine_for_all, works_where, stands_at_once}
 use Rattle.etalis_core.proofs.engine.Engine.begin.Goals as goal

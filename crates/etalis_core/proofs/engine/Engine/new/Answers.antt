@@ -1,5 +1,5 @@
 use Rattle.std.proofs.Common.{refl}
-use Rattle.ev_term.specs.Presence.{NoInput}
+use Rattle.event_model.specs.Presence.{NoInput}
 use Rattle.etalis_core.proofs.engine.Engine.new.Goals as goal
 
 pub returns-clause-stands : goal.returns-clause-stands

@@ -1,5 +1,5 @@
 use Rattle.std.proofs.Common.{refl}
-use Rattle.ev_term.specs.Presence.{settled, extended}
+use Rattle.event_model.specs.Presence.{settled, extended}
 use Rattle.etalis_core.specs.StandsFor.{late_of}
 use Rattle.etalis_core.proofs.EngineLaws.{stands_done, change_is}
 use Rattle.etalis_core.proofs.engine.Engine.turn.Goals as goal

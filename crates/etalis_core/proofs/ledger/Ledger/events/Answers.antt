@@ -1,4 +1,4 @@
-use Rattle.ev_term.specs.Presence.{all_inputs}
+use Rattle.event_model.specs.Presence.{all_inputs}
 use Rattle.etalis_core.proofs.ledger.Ledger.events.Goals as goal
 
 pub returns : goal.returns

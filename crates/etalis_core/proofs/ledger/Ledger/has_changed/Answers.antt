@@ -1,4 +1,4 @@
-use Rattle.ev_term.specs.Presence.{all_inputs}
+use Rattle.event_model.specs.Presence.{all_inputs}
 use Rattle.etalis_core.proofs.LedgerLaws.{same_events}
 use Rattle.etalis_core.proofs.ledger.Ledger.has_changed.Goals as goal
 

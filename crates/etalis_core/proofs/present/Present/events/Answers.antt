@@ -3,7 +3,7 @@ use Rattle.std.specs.BTreeMap.{keys}
 use Rattle.std.specs.Map.Iter.{deref}
 use Rattle.std.proofs.lemmas.Map.Iter.{iter_end}
 use Rattle.ordered_lists.specs.Canon.{has}
-use Rattle.ev_term.specs.EventOrder.{event_cmp}
+use Rattle.event_model.specs.EventOrder.{event_cmp}
 use Rattle.etalis_core.proofs.PresentLaws.{keys_present}
 use Rattle.etalis_core.proofs.present.Present.events.Goals as goal
 

@@ -1,6 +1,6 @@
 use Rattle.std.proofs.Common.{ap, ◌∙◌, sym}
 use Rattle.std.specs.Prelude.{◌==◌}
-use Rattle.ev_term.specs.Presence.{is_absent}
+use Rattle.event_model.specs.Presence.{is_absent}
 use Rattle.etalis_core.proofs.present.Present.is_absent.Goals as goal
 
 pub returns-in-Take : goal.returns-in-Take

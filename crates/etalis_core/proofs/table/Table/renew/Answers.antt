@@ -1,7 +1,7 @@
 use Rattle.std.proofs.Common.{sym, ◌∙◌, subst}
 use Rattle.ordered_lists.specs.Canon.{Rising}
 use Rattle.ordered_lists.specs.Rises.{rising_of}
-use Rattle.ev_term.specs.EventOrder.{detection_cmp, exact_detections}
+use Rattle.event_model.specs.EventOrder.{detection_cmp, exact_detections}
 use Rattle.rule_ast.specs.Plain.{plain_rules}
 use Rattle.etalis_core.proofs.TableLaws.{rises_found}
 use Rattle.etalis_core.proofs.table.Table.renew.Goals as goal

@@ -1,6 +1,6 @@
 use Rattle.std.proofs.Common.{◌≡◌, ◌∙◌, sym, ap, true}
 use Rattle.std.specs.List.{list_all}
-use Rattle.ev_term.specs.SlotSets.{slot_in}
+use Rattle.event_model.specs.SlotSets.{slot_in}
 use Rattle.ev_bind.specs.Projections.{project}
 use Rattle.ev_bind.proofs.Projecting.{filter_all}
 use Rattle.ev_bind.proofs.bindings.Binding.project.Goals as goal

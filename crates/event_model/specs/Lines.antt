@@ -2,7 +2,7 @@
 use Rattle.std.specs.Prelude.{ℕ, ◌≡◌, Bool, true, false, cond, if◌then◌else◌, ◌==◌, List, [], ◌∷◌, ◌++◌}
 use Rattle.std.specs.List.{slice_split, onto_first}
 use Rattle.std.proofs.Common.{refl, ap, sym, ◌∙◌, append_assoc, append-nil}
-use Rattle.ev_term.specs.Bytes.{feed, carriage_return}
+use Rattle.event_model.specs.Bytes.{feed, carriage_return}
 
 -- one carriage return at the end of a line is dropped
 abbrev pub without_cr : List ℕ → List ℕ

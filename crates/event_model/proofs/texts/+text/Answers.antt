@@ -1,10 +1,10 @@
 use Rattle.std.proofs.Common.{rules, ◌∙◌, ap, map}
 use Rattle.std.specs.Io.{StartsWith}
 use Rattle.std.specs.List.{join_with_byte}
-use Rattle.ev_term.specs.Text.{term_text, term_text-Comp}
-use Rattle.ev_term.proofs.Commas.{first_written, applied_written}
-use Rattle.ev_term.proofs.Fronts.{starts_appended, starts_pushed, starts_on}
-use Rattle.ev_term.proofs.texts.+text.Goals as goal
+use Rattle.event_model.specs.Text.{term_text, term_text-Comp}
+use Rattle.event_model.proofs.Commas.{first_written, applied_written}
+use Rattle.event_model.proofs.Fronts.{starts_appended, starts_pushed, starts_on}
+use Rattle.event_model.proofs.texts.+text.Goals as goal
 
 pub push_args-loop-i-init : goal.push_args-loop-i-init
 push_args-loop-i-init t c = record {

@@ -1,7 +1,7 @@
 -- Events: their spans and times.
 use Rattle.std.specs.Prelude.{ℕ}
-use Rattle.ev_term.specs.Spans.{PlainSpan}
-use Rattle.ev_term.specs.declared.events.Event.{Event}
+use Rattle.event_model.specs.Spans.{PlainSpan}
+use Rattle.event_model.specs.declared.events.Event.{Event}
 
 -- from when to when an event happened
 abbrev pub span_of : Event → PlainSpan

@@ -3,15 +3,15 @@ use Rattle.std.specs.Prelude.{◌≡◌, ℕ, suc, ◌-◌, max, Bool, true, fal
 use Rattle.std.specs.List.{filter, flat_map}
 use Rattle.std.specs.Ordering.{is_eq}
 use Rattle.ordered_lists.specs.Canon.{canon}
-use Rattle.ev_term.specs.Events.{time_of}
-use Rattle.ev_term.specs.EventOrder.{event_cmp}
-use Rattle.ev_term.specs.declared.events.Event.{Event}
-use Rattle.ev_term.specs.declared.inputs.Input.{Input}
-use Rattle.ev_term.specs.declared.inputs.Input.TheVariants.{Add, Take, Advance, Nothing, Begin, Commit}
-use Rattle.ev_term.specs.declared.inputs.Judgement.{Judgement}
-use Rattle.ev_term.specs.declared.inputs.Judgement.TheVariants as judgement
-use Rattle.ev_term.specs.declared.inputs.Refusal.{Refusal}
-use Rattle.ev_term.specs.declared.inputs.Refusal.TheVariants as refusal
+use Rattle.event_model.specs.Events.{time_of}
+use Rattle.event_model.specs.EventOrder.{event_cmp}
+use Rattle.event_model.specs.declared.events.Event.{Event}
+use Rattle.event_model.specs.declared.inputs.Input.{Input}
+use Rattle.event_model.specs.declared.inputs.Input.TheVariants.{Add, Take, Advance, Nothing, Begin, Commit}
+use Rattle.event_model.specs.declared.inputs.Judgement.{Judgement}
+use Rattle.event_model.specs.declared.inputs.Judgement.TheVariants as judgement
+use Rattle.event_model.specs.declared.inputs.Refusal.{Refusal}
+use Rattle.event_model.specs.declared.inputs.Refusal.TheVariants as refusal
 
 -- ---- histories
 

@@ -11,11 +11,11 @@ use Rattle.std.proofs.Common.{ap, sym, subst, ◌∙◌}
 use Rattle.std.proofs.lemmas.Bool.{true≢false}
 use Rattle.std.proofs.lemmas.Map.Lookups.{exact_pairs}
 use Rattle.ordered_lists.specs.Canon.{Exact}
-use Rattle.ev_term.specs.declared.terms.Term.{Term, out-Term, roll-Term, out-roll-Term, roll-out-Term}
-use Rattle.ev_term.specs.declared.terms.Term.TheVariants as made
-use Rattle.ev_term.specs.declared.terms.Term.TheOpen.{Term-F}
-use Rattle.ev_term.specs.declared.terms.Term.TheOpen.Term-F.{Num, Sym, Text, Comp}
-use Rattle.ev_term.specs.declared.terms.Term.TheFolds.{fold-Term, fold_out-Term, map-Term, ind-Term}
+use Rattle.event_model.specs.declared.terms.Term.{Term, out-Term, roll-Term, out-roll-Term, roll-out-Term}
+use Rattle.event_model.specs.declared.terms.Term.TheVariants as made
+use Rattle.event_model.specs.declared.terms.Term.TheOpen.{Term-F}
+use Rattle.event_model.specs.declared.terms.Term.TheOpen.Term-F.{Num, Sym, Text, Comp}
+use Rattle.event_model.specs.declared.terms.Term.TheFolds.{fold-Term, fold_out-Term, map-Term, ind-Term}
 
 abbrev pub Key : Type 0
 Key = ℕ × (ℤ × (List ℕ × ℕ))

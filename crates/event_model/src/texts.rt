@@ -2,8 +2,8 @@
 ghost use Rattle.std.specs.Prelude.{◌≡◌, ◌++◌, ◌∷◌, [], OnOk, OnErr, map};
 ghost use Rattle.std.specs.Io.{StartsWith};
 ghost use Rattle.std.specs.List.{join_with_byte, flat_map};
-ghost use Rattle.ev_term.specs.Bytes.{comma};
-ghost use Rattle.ev_term.specs.Text.{escape, quoted, applied, written, term_text, atom_text};
+ghost use Rattle.event_model.specs.Bytes.{comma};
+ghost use Rattle.event_model.specs.Text.{escape, quoted, applied, written, term_text, atom_text};
 
 use crate::atoms::Atom;
 use crate::terms::Term;

@@ -1,8 +1,8 @@
 use Rattle.std.proofs.Common.{◌≡◌, ◌++◌, drop}
 use Rattle.std.specs.Io.{StartsWith}
 use Rattle.std.specs.List.{flat_map}
-use Rattle.ev_term.specs.Text.{escape}
-use Rattle.ev_term.proofs.texts.push_escaped.Given as goal
+use Rattle.event_model.specs.Text.{escape}
+use Rattle.event_model.proofs.texts.push_escaped.Given as goal
 
 -- what was written and what is left are all; what stood there before stands there still
 abbrev pub invariant-loop-byte : goal.invariant-loop-byte

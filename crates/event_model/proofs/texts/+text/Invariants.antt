@@ -1,9 +1,9 @@
 use Rattle.std.proofs.Common.{◌≡◌, ◌++◌, map, drop}
 use Rattle.std.specs.Io.{StartsWith}
 use Rattle.std.specs.List.{join_with_byte}
-use Rattle.ev_term.specs.Text.{term_text}
-use Rattle.ev_term.proofs.Commas.{behind_commas}
-use Rattle.ev_term.proofs.texts.+text.Given as goal
+use Rattle.event_model.specs.Text.{term_text}
+use Rattle.event_model.proofs.Commas.{behind_commas}
+use Rattle.event_model.proofs.texts.+text.Given as goal
 
 -- what was written and what is left are all; what stood there before stands there still
 abbrev pub invariant-push_args-loop-i : goal.invariant-push_args-loop-i

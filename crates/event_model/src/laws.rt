@@ -1,6 +1,6 @@
 // What a set of slots is.
 ghost use Rattle.std.specs.Prelude.{◌≡◌, ℕ};
-ghost use Rattle.ev_term.specs.SlotSets.{slot_in};
+ghost use Rattle.event_model.specs.SlotSets.{slot_in};
 
 /// Sets with the same members are the same set.
 #[tactic(auto, using(crate::proofs::SlotSets::same_members))]

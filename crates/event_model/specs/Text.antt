@@ -3,13 +3,13 @@ use Rattle.std.specs.Prelude.{ℕ, ℤ, ◌≡◌, if◌then◌else◌, ◌==◌
 use Rattle.std.specs.List.{join_with_byte, flat_map}
 use Rattle.std.specs.Fmt.{signed_decimal}
 use Rattle.std.proofs.Common.{ap, ◌∙◌}
-use Rattle.ev_term.specs.Bytes.{tab, feed, quote, open_round, close_round, comma, backslash}
-use Rattle.ev_term.specs.declared.terms.Term.{Term, out-Term}
-use Rattle.ev_term.specs.declared.terms.Term.TheOpen.{Term-F}
-use Rattle.ev_term.specs.declared.terms.Term.TheVariants as made
-use Rattle.ev_term.specs.declared.terms.Term.TheOpen.Term-F.{Num, Sym, Text, Comp}
-use Rattle.ev_term.specs.declared.terms.Term.TheFolds.{fold-Term, fold_out-Term, map-Term}
-use Rattle.ev_term.specs.declared.atoms.Atom.{Atom}
+use Rattle.event_model.specs.Bytes.{tab, feed, quote, open_round, close_round, comma, backslash}
+use Rattle.event_model.specs.declared.terms.Term.{Term, out-Term}
+use Rattle.event_model.specs.declared.terms.Term.TheOpen.{Term-F}
+use Rattle.event_model.specs.declared.terms.Term.TheVariants as made
+use Rattle.event_model.specs.declared.terms.Term.TheOpen.Term-F.{Num, Sym, Text, Comp}
+use Rattle.event_model.specs.declared.terms.Term.TheFolds.{fold-Term, fold_out-Term, map-Term}
+use Rattle.event_model.specs.declared.atoms.Atom.{Atom}
 
 -- a byte of a text, by an escape where it needs one: a quote, a backslash, a line feed or a tab
 abbrev pub escape : ℕ → List ℕ

@@ -7,16 +7,16 @@ use Rattle.std.proofs.lemmas.Bool.{true≢false}
 use Rattle.std.proofs.Common.{ap, sym, ◌∙◌}
 use Rattle.ordered_lists.specs.Canon.{Exact}
 use Rattle.ordered_lists.specs.Orders.{exact_numbers, exact_texts, exact_on, exact_then}
-use Rattle.ev_term.specs.Spans.{PlainSpan}
-use Rattle.ev_term.specs.Events.{span_of}
-use Rattle.ev_term.specs.TermOrder.{term_cmp, exact_terms, bytes_cmp}
-use Rattle.ev_term.specs.declared.terms.Term.{Term, out-Term}
-use Rattle.ev_term.specs.declared.terms.Term.TheVariants as made
-use Rattle.ev_term.specs.declared.terms.Term.TheOpen.Term-F.{Comp}
-use Rattle.ev_term.specs.declared.atoms.Atom.{Atom}
-use Rattle.ev_term.specs.declared.atoms.NameArity.{NameArity}
-use Rattle.ev_term.specs.declared.events.Event.{Event}
-use Rattle.ev_term.specs.declared.events.Detection.{Detection}
+use Rattle.event_model.specs.Spans.{PlainSpan}
+use Rattle.event_model.specs.Events.{span_of}
+use Rattle.event_model.specs.TermOrder.{term_cmp, exact_terms, bytes_cmp}
+use Rattle.event_model.specs.declared.terms.Term.{Term, out-Term}
+use Rattle.event_model.specs.declared.terms.Term.TheVariants as made
+use Rattle.event_model.specs.declared.terms.Term.TheOpen.Term-F.{Comp}
+use Rattle.event_model.specs.declared.atoms.Atom.{Atom}
+use Rattle.event_model.specs.declared.atoms.NameArity.{NameArity}
+use Rattle.event_model.specs.declared.events.Event.{Event}
+use Rattle.event_model.specs.declared.events.Detection.{Detection}
 
 -- an atom as the compound of its name and its arguments
 abbrev pub as_term : Atom → Term

@@ -2,8 +2,8 @@
 use Rattle.std.proofs.Common.{◌≡◌, ℕ, ◌+◌, ◌<◌, List, [], ◌∷◌, ◌++◌, length, map, drop, get_or, sym, ap, ◌∙◌, append-nil, append_assoc}
 use Rattle.std.specs.List.{join_with_byte}
 use Rattle.std.proofs.lemmas.List.{drop_more}
-use Rattle.ev_term.specs.declared.terms.Term.{Term}
-use Rattle.ev_term.specs.Text.{term_text}
+use Rattle.event_model.specs.declared.terms.Term.{Term}
+use Rattle.event_model.specs.Text.{term_text}
 
 -- texts, each behind a comma
 abbrev pub behind_commas : List (List ℕ) → List ℕ

@@ -21,10 +21,10 @@ use Rattle.std.specs.contracts.rc.Rc as rc
 use Rattle.std.specs.declared.alloc.Global.{Global}
 use Rattle.std.specs.contracts.alloc.Global as heap
 use Rattle.std.specs.contracts.impls.GlobalAllocator.TheImpl.{ghosts}
-use Rattle.ev_term.specs.declared.lists.Shared.TheInside.{Inside}
-use Rattle.ev_term.specs.declared.lists.Shared.TheView.{view, invariant}
-use Rattle.ev_term.specs.contracts.lists.Shared as C
-use Rattle.ev_term.specs.contracts.lists.Shared.TheInside as I
+use Rattle.event_model.specs.declared.lists.Shared.TheInside.{Inside}
+use Rattle.event_model.specs.declared.lists.Shared.TheView.{view, invariant}
+use Rattle.event_model.specs.contracts.lists.Shared as C
+use Rattle.event_model.specs.contracts.lists.Shared.TheInside as I
 
 abbrev pub the_former : Former {0} → Former {0}
 the_former g = list g

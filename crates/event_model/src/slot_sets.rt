@@ -1,7 +1,7 @@
 // Sets of slots.
 ghost use Rattle.std.specs.Prelude.{◌≡◌, ℕ, false, ◌==◌, ◌||◌, ◌&&◌};
 ghost use Rattle.std.specs.Bool.{Decides};
-ghost use Rattle.ev_term.specs.SlotSets.{slot_in, IsWithin};
+ghost use Rattle.event_model.specs.SlotSets.{slot_in, IsWithin};
 
 use crate::terms::Slot;
 use std::marker::Model;

@@ -1,9 +1,9 @@
 -- A fact of arguments of rules, from that of a layer whose arguments have it.
 use Rattle.std.proofs.Common.{List, [], ◌∷◌, map, subst}
-use Rattle.ev_term.specs.declared.terms.Pat.{Pat, roll-Pat}
-use Rattle.ev_term.specs.declared.terms.Pat.TheOpen.{Pat-F}
-use Rattle.ev_term.specs.declared.terms.Pat.TheOpen.Pat-F.{Var, Any, Num, Sym, Text, Comp}
-use Rattle.ev_term.specs.declared.terms.Pat.TheFolds.{map-Pat, ind-Pat}
+use Rattle.event_model.specs.declared.terms.Pat.{Pat, roll-Pat}
+use Rattle.event_model.specs.declared.terms.Pat.TheOpen.{Pat-F}
+use Rattle.event_model.specs.declared.terms.Pat.TheOpen.Pat-F.{Var, Any, Num, Sym, Text, Comp}
+use Rattle.event_model.specs.declared.terms.Pat.TheFolds.{map-Pat, ind-Pat}
 
 abbrev pub Each : (Pat → Type 0) → List Pat → Type 0
 Each P [] = Unit {0}

@@ -1,7 +1,7 @@
 use Rattle.std.proofs.Common.{◌≡◌, drop}
 use Rattle.std.specs.Cmp.Lexicographic.{slice_cmp}
-use Rattle.ev_term.specs.TermOrder.{term_cmp}
-use Rattle.ev_term.proofs.compare.+compare.Given as goal
+use Rattle.event_model.specs.TermOrder.{term_cmp}
+use Rattle.event_model.proofs.compare.+compare.Given as goal
 
 -- what is left compares as the whole does
 abbrev pub invariant-cmp_args-loop-i : goal.invariant-cmp_args-loop-i

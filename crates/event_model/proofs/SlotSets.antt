@@ -6,7 +6,7 @@ use Rattle.std.specs.Int.RustNames.{bit_or}
 use Rattle.std.proofs.lemmas.Bool.{cases_eq}
 use Rattle.std.proofs.lemmas.Bool.Decides.{nat_tests, Decides-eqb}
 use Rattle.std.proofs.lemmas.Nat.Bits.{bit_at-lt, bit_at-zero, bit_at_and, bit_at_or, shr_and_one, bit_at_set_same, bit_at_set_other, same_from_bits}
-use Rattle.ev_term.specs.SlotSets.{slot_in, IsWithin}
+use Rattle.event_model.specs.SlotSets.{slot_in, IsWithin}
 
 pub slot_in_none : (t : ℕ) → slot_in 0 t ≡ false
 unfolding slot_in

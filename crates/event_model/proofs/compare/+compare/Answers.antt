@@ -1,8 +1,8 @@
 use Rattle.std.proofs.Common.{◌≡◌, ◌∙◌, ap, sym}
 use Rattle.std.specs.Ordering.{ordering_then}
 use Rattle.std.specs.declared.cmp.Ordering.TheVariants.{Equal}
-use Rattle.ev_term.specs.TermOrder.{args_cmp, bytes_cmp, comps}
-use Rattle.ev_term.proofs.compare.+compare.Goals as goal
+use Rattle.event_model.specs.TermOrder.{args_cmp, bytes_cmp, comps}
+use Rattle.event_model.proofs.compare.+compare.Goals as goal
 
 pub cmp_terms-returns-in-Equal : goal.cmp_terms-returns-in-Equal
 cmp_terms-returns-in-Equal t c =

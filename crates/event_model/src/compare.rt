@@ -9,8 +9,8 @@ ghost use Rattle.std.specs.Hash as fed;
 ghost use Rattle.std.specs.Str.{bytes_eq};
 ghost use Rattle.std.proofs.Common.{refl, rules};
 ghost use Rattle.std.proofs.lemmas.Cmp.{eq_by_cmp_equiv};
-ghost use Rattle.ev_term.specs.TermOrder.{term_cmp, bytes_cmp, args_cmp, rank};
-ghost use Rattle.ev_term.specs.EventOrder.{name_cmp, atom_cmp, span_cmp, event_cmp, detection_cmp, exact_names, exact_events, exact_detections};
+ghost use Rattle.event_model.specs.TermOrder.{term_cmp, bytes_cmp, args_cmp, rank};
+ghost use Rattle.event_model.specs.EventOrder.{name_cmp, atom_cmp, span_cmp, event_cmp, detection_cmp, exact_names, exact_events, exact_detections};
 
 use crate::atoms::{Atom, NameArity};
 use crate::events::{Detection, Event, Span};
@@ -241,7 +241,7 @@ impl Ord for NameArity {
 impl Hash for NameArity {
     ghost use Rattle.std.specs.Prelude.{◌++◌};
     ghost use Rattle.std.proofs.Common.{ap};
-    ghost use Rattle.ev_term.specs.EventOrder.{same_names};
+    ghost use Rattle.event_model.specs.EventOrder.{same_names};
 
     ghost hash_input = { λ n. fed.str n.name ++ fed.u8 n.arity };
 

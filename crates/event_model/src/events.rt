@@ -1,6 +1,6 @@
 // Events, spans and detections.
 ghost use Rattle.std.specs.Prelude.{◌≡◌, ◌<◌, ◌≤◌, ◌^◌, IfOk};
-ghost use Rattle.ev_term.specs.Spans.{PlainSpan, instant};
+ghost use Rattle.event_model.specs.Spans.{PlainSpan, instant};
 
 use crate::atoms::Atom;
 use std::alloc::AllocError;
@@ -18,8 +18,8 @@ pub struct Span {
 
 impl Model for Span {
     ghost use Rattle.std.specs.Prelude.{◌<◌, ◌≤◌};
-    ghost use Rattle.ev_term.specs.Spans.{PlainSpan};
-    ghost use Rattle.ev_term.specs.declared.events.TheConstants.{TIME_LIMIT};
+    ghost use Rattle.event_model.specs.Spans.{PlainSpan};
+    ghost use Rattle.event_model.specs.declared.events.TheConstants.{TIME_LIMIT};
 
     ghost Value = { PlainSpan };
 
@@ -76,7 +76,7 @@ pub struct Event {
 }
 
 impl Event {
-    ghost use Rattle.ev_term.specs.Events.{time_of};
+    ghost use Rattle.event_model.specs.Events.{time_of};
 
     /// The end of its span.
     pub fn time(&self) -> u64

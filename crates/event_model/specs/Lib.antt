@@ -1,0 +1,10 @@
+pub mod formers
+pub mod Bytes
+pub mod Spans
+pub mod Events
+pub mod TermOrder
+pub mod EventOrder
+pub mod Text
+pub mod Lines
+pub mod Presence
+pub mod SlotSets
