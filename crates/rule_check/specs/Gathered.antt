@@ -10,7 +10,7 @@ use Rattle.rule_ast.specs.declared.statements.Rule.{Rule}
 abbrev pub rules_at : List (Bor Rule) → List PlainRule
 rules_at rules = map (λ r. plain_rule r.now) rules
 
--- rules of a shaped file, which a number counts
+-- rules of a shaped file, so few that a u32 counts them
 pub record AreShaped (rules : List PlainRule) : Type 0 where
   pub few : length rules < 2 ^ 32
   pub each : list_all is_shaped_rule rules ≡ true
