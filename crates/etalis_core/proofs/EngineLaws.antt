@@ -1,6 +1,7 @@
 -- What an engine stands for and works from, from input to input.
 use Rattle.std.proofs.Common.{◌≡◌, ℕ, Option, Bool, true, false, not, refl, sym, ap, ◌∙◌, subst, inl, inr}
 use Rattle.std.specs.Prelude.{◌⊎◌}
+use Rattle.std.proofs.Math.Bool.{not-not}
 use Rattle.std.proofs.lemmas.Bool.{true≢false}
 use Rattle.event_model.specs.Presence.{History, settled, all_inputs, extended, settles, present, judge, IsAccepted, OneMore}
 use Rattle.event_model.specs.declared.inputs.Input.{Input}
@@ -22,14 +23,10 @@ fine_for_all engine h input (inr (other, can)) s =
     judged_alike (late_of engine) h other input (sym s.ledger.batch ∙ can.ledger.batch) (sym s.ledger.told_bound ∙ can.ledger.told_bound)
     (λ e. sym (s.ledger.numbers e) ∙ can.ledger.numbers e) ∙ can.fine
 
-twice : (b : Bool) → not (not b) ≡ b
-twice true = refl
-twice false = refl
-
 -- an engine works after an input exactly where the input settles something
 pub works_where : (ledger : Ledger) (late : Option ℕ) (h : History) (input : Input) → IsLedgerOf ledger late (settled h) (extended h input)
     → (working : Bool) → working ≡ not ledger.in_batch → working ≡ settles h input
-works_where ledger late h input l working e = e ∙ ap not (l.batch ∙ settles_outside h input) ∙ twice (settles h input)
+works_where ledger late h input l working e = e ∙ ap not (l.batch ∙ settles_outside h input) ∙ not-not (settles h input)
 
 -- where it settles nothing, it is done
 pub stands_at_once : (old new : Engine) (h : History) (input : Input) → StandsFor old h → judge (late_of new) h input ≡ Fine → settles h input ≡ false

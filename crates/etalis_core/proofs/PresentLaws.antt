@@ -87,14 +87,6 @@ module _ (k : Event) (v : ℕ) (f g : Event → ℕ) (p : Puts k v f g) where
       at true t = let h = here e t in ap (nat_lt 0) h.0 ∙ is ∙ ap (λ n. not (nat_lt 0 n)) (sym h.1)
       at false t = ap (nat_lt 0) (there e t)
 
-  -- where a number is as before, all are
-  pub unmoved : v ≡ f k → (e : Event) → g e ≡ f e
-  unmoved is e = at (is_eq (event_cmp k e)) refl
-    where
-      at : (b : Bool) → is_eq (event_cmp k e) ≡ b → g e ≡ f e
-      at true t = let h = here e t in h.0 ∙ is ∙ sym h.1
-      at false t = there e t
-
 -- what is put and taken out again
 pub put_back : (k : Event) (v w : ℕ) (f g h : Event → ℕ) → Puts k v f g → Puts k w g h → w ≡ f k → (e : Event) → h e ≡ f e
 put_back k v w f g h p q is e = at (is_eq (event_cmp k e)) refl

@@ -2,6 +2,7 @@
 use Rattle.std.proofs.Common.{◌≡◌, Bool, true, false, not, ◌&&◌, List, [], refl, sym, ◌∙◌, subst, map}
 use Rattle.std.specs.List.{flat_map}
 use Rattle.std.specs.declared.cmp.Ordering.{Ordering}
+use Rattle.std.proofs.Math.Bool.{and-not_self}
 use Rattle.ordered_lists.specs.Canon.{Rising, Exact, has, Rising-canon, Rising-filter, canon_one}
 use Rattle.ordered_lists.specs.Members.{without, has-without}
 use Rattle.event_model.specs.declared.events.Event.{Event}
@@ -22,13 +23,9 @@ rising_standing rules events = Rising-canon exact_detections (flat_map (λ n. ma
 pub rises_found : (rules : List PlainStatement) (events : List Event) (found : List Detection) → found ≡ standing rules events → rises detection_cmp found ≡ true
 rises_found rules events found e = of_rising detection_cmp found (subst (λ l. Rising detection_cmp l) (sym e) (rising_standing rules events))
 
-and_not : (b : Bool) → (b && not b) ≡ false
-and_not true = refl
-and_not false = refl
-
 -- no element of a list is missing in it
 without_itself : {K : Type 0} {R : K → K → Ordering} (o : Exact R) (xs : List K) → Rising R xs → without R xs xs ≡ []
-without_itself {R = R} o xs a = canon_one o (without R xs xs) [] (Rising-filter o (λ x. not (has R x xs)) xs a) tt (λ q. has-without o q xs xs ∙ and_not (has R q xs))
+without_itself {R = R} o xs a = canon_one o (without R xs xs) [] (Rising-filter o (λ x. not (has R x xs)) xs a) tt (λ q. has-without o q xs xs ∙ and-not_self (has R q xs))
 
 pub no_change : (table : List Detection) (change : Change) → rises detection_cmp table ≡ true → change.gone ≡ [] → change.come ≡ [] → change ≡ change_between table table
 no_change table change a gone come =

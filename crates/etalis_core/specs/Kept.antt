@@ -21,6 +21,10 @@ use Rattle.etalis_core.specs.declared.ledger.Ledger.{Ledger}
 abbrev pub number_of : Present → Event → ℕ
 number_of kept e = unwrap_or (get event_cmp kept.numbers e) 0
 
+-- the numbers that are kept are the copies of these inputs
+abbrev pub HasCopies : Present → List Input → Type 0
+HasCopies kept inputs = (e : Event) → number_of kept e ≡ copies inputs e
+
 -- whether a copy of an event is kept
 abbrev pub is_kept : Present → Event → Bool
 is_kept kept e = nat_lt 0 (number_of kept e)
@@ -47,7 +51,7 @@ HasRoom number Commit = Unit {0}
 -- The ledger has the copies of this history, its bound and whether a batch is open in it. What stands was told after other
 -- inputs: the ledger has their bound, and the net changes from the events that were present after them.
 pub record IsLedgerOf (ledger : Ledger) (late : Option ℕ) (told : List Input) (history : History) : Type 0 where
-  pub numbers : (e : Event) → number_of ledger.present e ≡ copies (all_inputs history) e
+  pub numbers : HasCopies ledger.present (all_inputs history)
   pub net : net_changes ledger.present ≡ event_changes (present told) (present (all_inputs history))
   pub told_bound : ledger.bound ≡ bound late told
   pub next_bound : ledger.next_bound ≡ bound late (all_inputs history)

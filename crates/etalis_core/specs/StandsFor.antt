@@ -89,8 +89,8 @@ pub record CanBegin (engine : Engine) (history : History) (input : Input) : Type
   pub room : HasRoom (copies (all_inputs history)) input
 
 -- an engine that stands for a history may begin what is fine after it and has room
-pub can_begin : (engine : Engine) (history : History) (input : Input) → StandsFor engine history → judge (late_of engine) history input ≡ Fine
-    → HasRoom (copies (all_inputs history)) input → CanBegin engine history input
+pub can_begin : (engine : Engine) (history : History) (input : Input) → StandsFor engine history
+    → judge (late_of engine) history input ≡ Fine → HasRoom (copies (all_inputs history)) input → CanBegin engine history input
 can_begin engine history input s fine room = record {
   accepted = s.accepted;
   ledger = s.ledger;

@@ -145,7 +145,8 @@ impl Engine {
             → OnOk result (WorksFrom self.new history input) }
         ensures stands { (history : History) → StandsFor self.old history → settles history input ≡ false
             → OnOk result (StandsFor self.new (extended history input)) }
-        ensures working { (history : History) → CanBegin self.old history input → OnOk result (is_working self.new ≡ settles history input) }
+        ensures working { (history : History) → CanBegin self.old history input
+            → OnOk result (is_working self.new ≡ settles history input) }
         ensures change { last_change self.new ≡ last_change self.old }
         ensures spent { IsErrOf result EngineFault.Spent ↔ (is_spent self.old ≡ true) }
         ensures ok { OnOk result (is_spent self.new ≡ false) }

@@ -40,6 +40,7 @@ impl Ledger {
         self.bound
     }
 
+    /// Whether a batch is open.
     pub fn in_batch(&self) -> bool
         ensures { result ≡ self.now.in_batch }
     {

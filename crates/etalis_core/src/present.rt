@@ -40,9 +40,9 @@ fn flip(events: &mut BTreeSet<Event>, event: &Event) -> Result<(), AllocError>
 
 impl Present {
     ghost use Rattle.std.specs.Prelude.{◌+◌, ◌-◌, ◌↔◌, List, [], ◌∷◌, IfOk, true, false};
-    ghost use Rattle.event_model.specs.Presence.{added, taken, occurrences, copies, present, is_absent};
+    ghost use Rattle.event_model.specs.Presence.{added, taken, occurrences, present, is_absent};
     ghost use Rattle.event_model.specs.declared.inputs.Input.{Input};
-    ghost use Rattle.etalis_core.specs.Kept.{number_of, was_kept, HasRoom};
+    ghost use Rattle.etalis_core.specs.Kept.{number_of, was_kept, HasCopies, HasRoom};
 
     /// No events, and no changes.
     pub fn new(alloc: Global) -> Present
@@ -64,7 +64,7 @@ impl Present {
 
     /// Whether an input takes back an event of which there is no copy.
     pub fn is_absent(&self, input: &Input) -> bool
-        ensures { (inputs : List Input) → ((e : Event) → number_of self.now e ≡ copies inputs e) → result ≡ is_absent inputs input.now }
+        ensures { (inputs : List Input) → HasCopies self.now inputs → result ≡ is_absent inputs input.now }
     {
         match input {
             Input::Take(event) => self.number_of(event) == 0,
@@ -74,7 +74,7 @@ impl Present {
 
     /// The events that are present, in order.
     pub fn events(&self, alloc: Global) -> Result<Vec<Event>, AllocError>
-        ensures { (inputs : List Input) → ((e : Event) → number_of self.now e ≡ copies inputs e) → IfOk result (λ v. v.items ≡ present inputs) }
+        ensures { (inputs : List Input) → HasCopies self.now inputs → IfOk result (λ v. v.items ≡ present inputs) }
     {
         let mut events = Vec::new(alloc);
         for event in self.numbers.keys() {
@@ -152,7 +152,8 @@ impl Present {
     /// fails, all stays as it was.
     pub fn follow(&mut self, input: Input) -> Result<(), AllocError>
         requires { HasRoom (number_of self.old) input }
-        ensures numbers { (e : Event) → OnOk result (number_of self.new e ≡ number_of self.old e + occurrences e (added input) - occurrences e (taken input)) }
+        ensures numbers { (e : Event)
+            → OnOk result (number_of self.new e ≡ number_of self.old e + occurrences e (added input) - occurrences e (taken input)) }
         ensures was { (e : Event) → OnOk result (was_kept self.new e ≡ was_kept self.old e) }
         ensures err_numbers { (e : Event) → OnErr result (number_of self.new e ≡ number_of self.old e) }
         ensures err_changed { OnErr result (self.new.changed.keys ≡ self.old.changed.keys) }

@@ -96,7 +96,8 @@ impl Table {
         ledger: &Ledger,
     ) -> Result<(), AllocError>
         ensures table { (late : Option ℕ) (told : List Input) (history : History) → IsLedgerOf ledger.now late told history
-            → IsTableOf self.old (plain_rules rules.now) told → OnOk result (IsTableOf self.new (plain_rules rules.now) (all_inputs history)) }
+            → IsTableOf self.old (plain_rules rules.now) told
+            → OnOk result (IsTableOf self.new (plain_rules rules.now) (all_inputs history)) }
         ensures change { OnOk result (change_of self.new ≡ change_between self.old.standing.items self.new.standing.items) }
     {
         if ledger.has_changed() {

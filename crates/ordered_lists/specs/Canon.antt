@@ -8,6 +8,7 @@ use Rattle.std.specs.Cmp.{IsTotalOrder, tied_itself}
 use Rattle.std.specs.declared.cmp.Ordering.{Ordering}
 use Rattle.std.specs.declared.cmp.Ordering.TheVariants.{Less, Equal, Greater}
 use Rattle.std.proofs.Common.{ap, sym, ◌∙◌, subst}
+use Rattle.std.proofs.Math.Bool.{and-false, or_assoc, or_self_left}
 use Rattle.std.proofs.lemmas.Bool.{true≢false}
 use Rattle.ordered_lists.specs.Lists.{Each}
 
@@ -44,24 +45,17 @@ module _ {K : Type 0} (R : K → K → Ordering) where
 module _ {K : Type 0} (R : K → K → Ordering) (P : K → Type 0) where
   Each-place : (r : K) (xs : List K) → P r → Each P xs → Each P (place R r xs)
   Each-place r [] h a = (h, tt)
-  Each-place r (x ∷ xs) h a = elim (R r x) as (λ c. Each P (placed R c r x xs (place R r xs))) [ Less ↦ (h, a) | Equal ↦ a | Greater ↦ (a.0, Each-place r xs h a.1) ]
+  Each-place r (x ∷ xs) h a = elim (R r x) as (λ c. Each P (placed R c r x xs (place R r xs)))
+      [ Less ↦ (h, a) | Equal ↦ a | Greater ↦ (a.0, Each-place r xs h a.1) ]
 
   pub Each-canon : (xs : List K) → Each P xs → Each P (canon R xs)
   Each-canon [] a = tt
   Each-canon (x ∷ xs) a = Each-place x (canon R xs) a.0 (Each-canon xs a.1)
 
-or_assoc : (a b c : Bool) → ((a || b) || c) ≡ (a || (b || c))
-or_assoc true b c = refl
-or_assoc false b c = refl
-
-or_swap : (a b c : Bool) → (a || (b || c)) ≡ (b || (a || c))
+pub or_swap : (a b c : Bool) → (a || (b || c)) ≡ (b || (a || c))
 or_swap true true c = refl
 or_swap true false c = refl
 or_swap false b c = refl
-
-or_same : (a c : Bool) → (a || (a || c)) ≡ (a || c)
-or_same true c = refl
-or_same false c = refl
 
 module _ {K : Type 0} {R : K → K → Ordering} (o : Exact R) where
   above_more : (x y : K) → R x y ≡ Less → (ys : List K) → AllAbove R y ys → AllAbove R x ys
@@ -97,9 +91,11 @@ module _ {K : Type 0} {R : K → K → Ordering} (o : Exact R) where
   has-place q r [] = refl
   has-place q r (y ∷ ys) = at (R r y) refl (has-place q r ys)
     where
-      at : (c : Ordering) → R r y ≡ c → has R q (place R r ys) ≡ (is_eq (R q r) || has R q ys) → has R q (placed R c r y ys (place R r ys)) ≡ (is_eq (R q r) || has R q (y ∷ ys))
+      at : (c : Ordering) → R r y ≡ c → has R q (place R r ys) ≡ (is_eq (R q r) || has R q ys)
+          → has R q (placed R c r y ys (place R r ys)) ≡ (is_eq (R q r) || has R q (y ∷ ys))
       at Less e h = refl
-      at Equal e h = sym (ap (λ z. is_eq (R q z) || (is_eq (R q y) || has R q ys)) (o.same r y e) ∙ or_same (is_eq (R q y)) (has R q ys))
+      at Equal e h = sym (ap (λ z. is_eq (R q z) || (is_eq (R q y) || has R q ys)) (o.same r y e)
+          ∙ or_self_left (is_eq (R q y)) (has R q ys))
       at Greater e h = ap (λ b. is_eq (R q y) || b) h ∙ or_swap (is_eq (R q y)) (is_eq (R q r)) (has R q ys)
 
   pub has-canon : (q : K) (xs : List K) → has R q (canon R xs) ≡ has R q xs
@@ -114,7 +110,8 @@ module _ {K : Type 0} {R : K → K → Ordering} (o : Exact R) where
   first_is : (x : K) (xs : List K) → has R x (x ∷ xs) ≡ true
   first_is x xs = ap (λ c. is_eq c || has R x xs) (tied_itself o.total x)
 
-  tails : (x : K) (xs ys : List K) → AllAbove R x xs → AllAbove R x ys → ((q : K) → has R q (x ∷ xs) ≡ has R q (x ∷ ys)) → (q : K) → has R q xs ≡ has R q ys
+  tails : (x : K) (xs ys : List K) → AllAbove R x xs → AllAbove R x ys → ((q : K) → has R q (x ∷ xs) ≡ has R q (x ∷ ys)) → (q : K)
+      → has R q xs ≡ has R q ys
   tails x xs ys a b h q = at (R q x) refl (h q)
     where
       at : (c : Ordering) → R q x ≡ c → (is_eq c || has R q xs) ≡ (is_eq c || has R q ys) → has R q xs ≡ has R q ys
@@ -131,12 +128,15 @@ module _ {K : Type 0} {R : K → K → Ordering} (o : Exact R) where
     where
       at : (c : Ordering) → R x y ≡ c → (((q : K) → has R q xs ≡ has R q ys) → xs ≡ ys) → x ∷ xs ≡ y ∷ ys
       at Less e rest = absurd (true≢false (sym (first_is x xs) ∙ h x ∙ not_below x (y ∷ ys) (e, above_more x y e ys b.0)))
-      at Greater e rest = absurd (true≢false (sym (first_is y ys) ∙ sym (h y) ∙ not_below y (x ∷ xs) (after y x e, above_more y x (after y x e) xs a.0)))
+      at Greater e rest = absurd
+          (true≢false (sym (first_is y ys) ∙ sym (h y) ∙ not_below y (x ∷ xs) (after y x e, above_more y x (after y x e) xs a.0)))
       at Equal e rest = let s = o.same x y e in
-          λ i. s i ∷ rest (tails x xs ys a.0 (subst (λ z. AllAbove R z ys) (sym s) b.0) (λ q. h q ∙ ap (λ z. is_eq (R q z) || has R q ys) (sym s))) i
+          λ i. s i ∷ rest (tails x xs ys a.0 (subst (λ z. AllAbove R z ys) (sym s) b.0) (λ q. h q
+          ∙ ap (λ z. is_eq (R q z) || has R q ys) (sym s))) i
 
   pub canon_same : (xs ys : List K) → ((q : K) → has R q xs ≡ has R q ys) → canon R xs ≡ canon R ys
-  canon_same xs ys h = canon_one (canon R xs) (canon R ys) (Rising-canon xs) (Rising-canon ys) (λ q. has-canon q xs ∙ h q ∙ sym (has-canon q ys))
+  canon_same xs ys h = canon_one (canon R xs) (canon R ys) (Rising-canon xs) (Rising-canon ys) (λ q. has-canon q xs ∙ h q
+      ∙ sym (has-canon q ys))
 
   pub canon_itself : (xs : List K) → Rising R xs → canon R xs ≡ xs
   canon_itself xs a = canon_one (canon R xs) xs (Rising-canon xs) a (λ q. has-canon q xs)
@@ -147,21 +147,20 @@ module _ {K : Type 0} {R : K → K → Ordering} (o : Exact R) where
 
   AllAbove-filter : (p : K → Bool) (x : K) (xs : List K) → AllAbove R x xs → AllAbove R x (filter p xs)
   AllAbove-filter p x [] a = tt
-  AllAbove-filter p x (y ∷ ys) a = elim (p y) as (λ b. AllAbove R x (cond b (y ∷ filter p ys) (filter p ys))) [ true ↦ (a.0, AllAbove-filter p x ys a.1) | false ↦ AllAbove-filter p x ys a.1 ]
+  AllAbove-filter p x (y ∷ ys) a = elim (p y) as (λ b. AllAbove R x (cond b (y ∷ filter p ys) (filter p ys)))
+      [ true ↦ (a.0, AllAbove-filter p x ys a.1) | false ↦ AllAbove-filter p x ys a.1 ]
 
   pub Rising-filter : (p : K → Bool) (xs : List K) → Rising R xs → Rising R (filter p xs)
   Rising-filter p [] a = tt
-  Rising-filter p (x ∷ xs) a = elim (p x) as (λ b. Rising R (cond b (x ∷ filter p xs) (filter p xs))) [ true ↦ (AllAbove-filter p x xs a.0, Rising-filter p xs a.1) | false ↦ Rising-filter p xs a.1 ]
+  Rising-filter p (x ∷ xs) a = elim (p x) as (λ b. Rising R (cond b (x ∷ filter p xs) (filter p xs)))
+      [ true ↦ (AllAbove-filter p x xs a.0, Rising-filter p xs a.1) | false ↦ Rising-filter p xs a.1 ]
 
   pub has-filter : (p : K → Bool) (q : K) (xs : List K) → has R q (filter p xs) ≡ (p q && has R q xs)
-  has-filter p q [] = none (p q)
-    where
-      none : (b : Bool) → false ≡ (b && false)
-      none true = refl
-      none false = refl
+  has-filter p q [] = sym (and-false (p q))
   has-filter p q (x ∷ xs) = at (R q x) refl (p x) refl (p q) refl (has-filter p q xs)
     where
-      at : (c : Ordering) → R q x ≡ c → (b : Bool) → p x ≡ b → (d : Bool) → p q ≡ d → has R q (filter p xs) ≡ (d && has R q xs) → has R q (cond b (x ∷ filter p xs) (filter p xs)) ≡ (d && (is_eq c || has R q xs))
+      at : (c : Ordering) → R q x ≡ c → (b : Bool) → p x ≡ b → (d : Bool) → p q ≡ d → has R q (filter p xs) ≡ (d && has R q xs)
+          → has R q (cond b (x ∷ filter p xs) (filter p xs)) ≡ (d && (is_eq c || has R q xs))
       at Less e true pb d pd h = ap (λ z. is_eq z || has R q (filter p xs)) e ∙ h
       at Greater e true pb d pd h = ap (λ z. is_eq z || has R q (filter p xs)) e ∙ h
       at Less e false pb d pd h = h

@@ -28,17 +28,21 @@ module _ {A : Type 0} (P : A → Type 0) where
 
   pub Each-filter : (p : A → Bool) (xs : List A) → Each xs → Each (filter p xs)
   Each-filter p [] a = tt
-  Each-filter p (x ∷ xs) a = elim (p x) as (λ b. Each (cond b (x ∷ filter p xs) (filter p xs))) [ true ↦ (a.0, Each-filter p xs a.1) | false ↦ Each-filter p xs a.1 ]
+  Each-filter p (x ∷ xs) a = elim (p x) as (λ b. Each (cond b (x ∷ filter p xs) (filter p xs)))
+      [ true ↦ (a.0, Each-filter p xs a.1) | false ↦ Each-filter p xs a.1 ]
 
-pub Each-filter_passes : {A : Type 0} (P : A → Type 0) (p : A → Bool) (xs : List A) → Each P xs → Each (λ x. P x × (p x ≡ true)) (filter p xs)
+pub Each-filter_passes : {A : Type 0} (P : A → Type 0) (p : A → Bool) (xs : List A) → Each P xs
+    → Each (λ x. P x × (p x ≡ true)) (filter p xs)
 Each-filter_passes P p [] a = tt
 Each-filter_passes P p (x ∷ xs) a = at (p x) refl (Each-filter_passes P p xs a.1)
   where
-    at : (b : Bool) → p x ≡ b → Each (λ x. P x × (p x ≡ true)) (filter p xs) → Each (λ x. P x × (p x ≡ true)) (cond b (x ∷ filter p xs) (filter p xs))
+    at : (b : Bool) → p x ≡ b → Each (λ x. P x × (p x ≡ true)) (filter p xs)
+        → Each (λ x. P x × (p x ≡ true)) (cond b (x ∷ filter p xs) (filter p xs))
     at true e h = ((a.0, e), h)
     at false e h = h
 
-pub Each-flat_map : {A C : Type 0} (P : A → Type 0) (Q : C → Type 0) (f : A → List C) → ((x : A) → P x → Each Q (f x)) → (xs : List A) → Each P xs → Each Q (flat_map f xs)
+pub Each-flat_map : {A C : Type 0} (P : A → Type 0) (Q : C → Type 0) (f : A → List C) → ((x : A) → P x → Each Q (f x)) → (xs : List A)
+    → Each P xs → Each Q (flat_map f xs)
 Each-flat_map P Q f h [] a = tt
 Each-flat_map P Q f h (x ∷ xs) a = Each-append Q (f x) (flat_map f xs) (h x a.0) (Each-flat_map P Q f h xs a.1)
 
@@ -52,11 +56,13 @@ module _ {A C : Type 0} where
   flat_map_same f g e (x ∷ xs) = λ i. e x i ++ flat_map_same f g e xs i
 
   -- what gives nothing may be left out, and the rest seen otherwise
-  pub flat_map_cut : (P : A → Type 0) (q : A → Bool) (f g : A → List C) → ((x : A) → P x → q x ≡ false → f x ≡ []) → ((x : A) → P x → q x ≡ true → f x ≡ g x) → (xs : List A) → Each P xs → flat_map f xs ≡ flat_map g (filter q xs)
+  pub flat_map_cut : (P : A → Type 0) (q : A → Bool) (f g : A → List C) → ((x : A) → P x → q x ≡ false → f x ≡ [])
+      → ((x : A) → P x → q x ≡ true → f x ≡ g x) → (xs : List A) → Each P xs → flat_map f xs ≡ flat_map g (filter q xs)
   flat_map_cut P q f g skips keeps [] a = refl
   flat_map_cut P q f g skips keeps (x ∷ xs) a = at (q x) refl (flat_map_cut P q f g skips keeps xs a.1)
     where
-      at : (b : Bool) → q x ≡ b → flat_map f xs ≡ flat_map g (filter q xs) → f x ++ flat_map f xs ≡ flat_map g (cond b (x ∷ filter q xs) (filter q xs))
+      at : (b : Bool) → q x ≡ b → flat_map f xs ≡ flat_map g (filter q xs)
+          → f x ++ flat_map f xs ≡ flat_map g (cond b (x ∷ filter q xs) (filter q xs))
       at true e h = λ i. keeps x a.0 e i ++ h i
       at false e h = ap (λ l. l ++ flat_map f xs) (skips x a.0 e) ∙ h
 
@@ -67,7 +73,8 @@ module _ {A C : Type 0} where
 module _ {A : Type 0} where
   filter_twice : (p q : A → Bool) (x : A) (b c : Bool) → p x ≡ b → q x ≡ c → (xs : List A) → filter p (filter q xs) ≡ filter q (filter p xs)
       → filter p (cond c (x ∷ filter q xs) (filter q xs)) ≡ filter q (cond b (x ∷ filter p xs) (filter p xs))
-  filter_twice p q x true true e f xs h = ap (λ t. cond t (x ∷ filter p (filter q xs)) (filter p (filter q xs))) e ∙ ap (λ l. x ∷ l) h ∙ sym (ap (λ t. cond t (x ∷ filter q (filter p xs)) (filter q (filter p xs))) f)
+  filter_twice p q x true true e f xs h = ap (λ t. cond t (x ∷ filter p (filter q xs)) (filter p (filter q xs))) e ∙ ap (λ l. x ∷ l) h
+      ∙ sym (ap (λ t. cond t (x ∷ filter q (filter p xs)) (filter q (filter p xs))) f)
   filter_twice p q x true false e f xs h = h ∙ sym (ap (λ t. cond t (x ∷ filter q (filter p xs)) (filter q (filter p xs))) f)
   filter_twice p q x false true e f xs h = ap (λ t. cond t (x ∷ filter p (filter q xs)) (filter p (filter q xs))) e ∙ h
   filter_twice p q x false false e f xs h = h
@@ -77,11 +84,13 @@ module _ {A : Type 0} where
   filter-filter p q (x ∷ xs) = filter_twice p q x (p x) (q x) refl refl xs (filter-filter p q xs)
 
   -- tests that agree where t passes
-  pub filter_agree_on : (p q t : A → Bool) → ((x : A) → t x ≡ true → p x ≡ q x) → (xs : List A) → filter p (filter t xs) ≡ filter q (filter t xs)
+  pub filter_agree_on : (p q t : A → Bool) → ((x : A) → t x ≡ true → p x ≡ q x) → (xs : List A)
+      → filter p (filter t xs) ≡ filter q (filter t xs)
   filter_agree_on p q t h [] = refl
   filter_agree_on p q t h (x ∷ xs) = at (t x) refl (filter_agree_on p q t h xs)
     where
-      at : (b : Bool) → t x ≡ b → filter p (filter t xs) ≡ filter q (filter t xs) → filter p (cond b (x ∷ filter t xs) (filter t xs)) ≡ filter q (cond b (x ∷ filter t xs) (filter t xs))
+      at : (b : Bool) → t x ≡ b → filter p (filter t xs) ≡ filter q (filter t xs)
+          → filter p (cond b (x ∷ filter t xs) (filter t xs)) ≡ filter q (cond b (x ∷ filter t xs) (filter t xs))
       at true e g = λ i. cond (h x e i) (x ∷ g i) (g i)
       at false e g = g
 
@@ -103,7 +112,8 @@ module _ {A : Type 0} where
 
   pub total-filter : (f : A → ℕ) (p : A → Bool) (xs : List A) → total f (filter p xs) ≡ total (λ x. cond (p x) (f x) 0) xs
   total-filter f p [] = refl
-  total-filter f p (x ∷ xs) = elim (p x) as (λ b. total f (cond b (x ∷ filter p xs) (filter p xs)) ≡ cond b (f x) 0 + total (λ x. cond (p x) (f x) 0) xs)
+  total-filter f p (x ∷ xs) =
+      elim (p x) as (λ b. total f (cond b (x ∷ filter p xs) (filter p xs)) ≡ cond b (f x) 0 + total (λ x. cond (p x) (f x) 0) xs)
       [ true ↦ omega (arith, total-filter f p xs) | false ↦ omega (arith, total-filter f p xs) ]
 
 pub total-flat_map : {A C : Type 0} (f : C → ℕ) (g : A → List C) (xs : List A) → total f (flat_map g xs) ≡ total (λ x. total f (g x)) xs
@@ -112,7 +122,8 @@ total-flat_map f g (x ∷ xs) = omega (arith, total-append f (g x) (flat_map g x
 
 module _ {A B C : Type 0} (j : A → B → Option C) where
   -- the sum over what is joined, as a sum over pairs
-  pub total-joins : (f : C → ℕ) (xs : List A) (ys : List B) → total f (joins j xs ys) ≡ total (λ x. total (λ y. total f (some_of (j x y))) ys) xs
+  pub total-joins : (f : C → ℕ) (xs : List A) (ys : List B)
+      → total f (joins j xs ys) ≡ total (λ x. total (λ y. total f (some_of (j x y))) ys) xs
   total-joins f xs ys = total-flat_map f (with_each j ys) xs ∙ total_same _ _ (λ x. total-flat_map f (λ y. some_of (j x y)) ys) xs
 
   module _ (P : A → Type 0) (Q : B → Type 0) (p : C → Bool) (q : A → Bool) (r : B → Bool) where
@@ -122,20 +133,24 @@ module _ {A B C : Type 0} (j : A → B → Option C) where
     joins-cut hull xs ys a b =
         filter-flat_map p (with_each j ys) xs
         ∙ flat_map_cut P q (λ x. filter p (with_each j ys x)) (with_each j (filter r ys))
-        (λ x h e. filter-flat_map p (λ y. some_of (j x y)) ys ∙ flat_map_none Q _ (λ y g. hull x y h g ∙ ap (λ t. cond (t && r y) (some_of (j x y)) []) e) ys b)
         (λ x h e. filter-flat_map p (λ y. some_of (j x y)) ys
-        ∙ flat_map_cut Q r _ (λ y. some_of (j x y)) (λ y g d. hull x y h g ∙ ap (λ t. cond (t && r y) (some_of (j x y)) []) e ∙ ap (λ t. cond t (some_of (j x y)) []) d)
+        ∙ flat_map_none Q _ (λ y g. hull x y h g ∙ ap (λ t. cond (t && r y) (some_of (j x y)) []) e) ys b)
+        (λ x h e. filter-flat_map p (λ y. some_of (j x y)) ys
+        ∙ flat_map_cut Q r _ (λ y. some_of (j x y)) (λ y g d. hull x y h g ∙ ap (λ t. cond (t && r y) (some_of (j x y)) []) e
+        ∙ ap (λ t. cond t (some_of (j x y)) []) d)
         (λ y g d. hull x y h g ∙ ap (λ t. cond (t && r y) (some_of (j x y)) []) e ∙ ap (λ t. cond t (some_of (j x y)) []) d) ys b)
         xs a
 
     -- what a pair gives doesn't pass where a side doesn't
-    pub joins-filter : ((x : A) (y : B) → P x → Q y → q x ≡ false → filter p (some_of (j x y)) ≡ []) → ((x : A) (y : B) → P x → Q y → r y ≡ false → filter p (some_of (j x y)) ≡ [])
+    pub joins-filter : ((x : A) (y : B) → P x → Q y → q x ≡ false → filter p (some_of (j x y)) ≡ [])
+        → ((x : A) (y : B) → P x → Q y → r y ≡ false → filter p (some_of (j x y)) ≡ [])
         → (xs : List A) (ys : List B) → Each P xs → Each Q ys → filter p (joins j xs ys) ≡ filter p (joins j (filter q xs) (filter r ys))
     joins-filter left right xs ys a b =
         filter-flat_map p (with_each j ys) xs
         ∙ flat_map_cut P q (λ x. filter p (with_each j ys x)) (λ x. filter p (with_each j (filter r ys) x))
         (λ x h e. filter-flat_map p (λ y. some_of (j x y)) ys ∙ flat_map_none Q _ (λ y g. left x y h g e) ys b)
-        (λ x h e. filter-flat_map p (λ y. some_of (j x y)) ys ∙ flat_map_cut Q r _ _ (λ y g d. right x y h g d) (λ y g d. refl) ys b ∙ sym (filter-flat_map p (λ y. some_of (j x y)) (filter r ys)))
+        (λ x h e. filter-flat_map p (λ y. some_of (j x y)) ys ∙ flat_map_cut Q r _ _ (λ y g d. right x y h g d) (λ y g d. refl) ys b
+        ∙ sym (filter-flat_map p (λ y. some_of (j x y)) (filter r ys)))
         xs a
         ∙ sym (filter-flat_map p (with_each j (filter r ys)) (filter q xs))
 
@@ -149,9 +164,12 @@ module _ {A B C : Type 0} (j : A → B → Option C) where
       → Balanced (joins j lb rb) (joins j la ra) (joins j lc ra ++ joins j lb rc) (joins j lw ra ++ joins j lb rw)
   Balanced-joins lb la lc lw rb ra rc rw left right f =
       let h = λ (x : A) (y : B). total f (some_of (j x y)) in
-      let l : total (λ x. total (h x) ra) la + total (λ x. total (h x) ra) lw ≡ total (λ x. total (h x) ra) lb + total (λ x. total (h x) ra) lc = left (λ x. total (h x) ra) in
-      let r : total (λ x. total (h x) ra) lb + total (λ x. total (h x) rw) lb ≡ total (λ x. total (h x) rb) lb + total (λ x. total (h x) rc) lb =
-      sym (total_of_sum (λ x. total (h x) ra) (λ x. total (h x) rw) lb) ∙ total_same _ _ (λ x. right (h x)) lb ∙ total_of_sum (λ x. total (h x) rb) (λ x. total (h x) rc) lb in
+      let l : total (λ x. total (h x) ra) la + total (λ x. total (h x) ra) lw
+      ≡ total (λ x. total (h x) ra) lb + total (λ x. total (h x) ra) lc = left (λ x. total (h x) ra) in
+      let r : total (λ x. total (h x) ra) lb + total (λ x. total (h x) rw) lb
+      ≡ total (λ x. total (h x) rb) lb + total (λ x. total (h x) rc) lb =
+      sym (total_of_sum (λ x. total (h x) ra) (λ x. total (h x) rw) lb) ∙ total_same _ _ (λ x. right (h x)) lb
+      ∙ total_of_sum (λ x. total (h x) rb) (λ x. total (h x) rc) lb in
       omega (
         arith,
         total-append f (joins j lc ra) (joins j lb rc),

@@ -48,7 +48,7 @@ mod tests {
     use std::test::Fail;
 
     #[test]
-    #[tactic(auto, using(crate::specs::Orders::exact_numbers, crate::specs::Members::rising_after_sort, crate::specs::Members::rising_after_place))]
+    #[tactic(auto, using(crate::specs::Orders::exact_numbers, crate::specs::Members::stays_rising))]
     fn keeps_each_number_once_in_order(rt: HostRuntime) -> Result<(), Fail> {
         let mut items = vec![in rt.alloc(); 7_u64, 3, 7, 5, 3]?;
         sort_unique(&mut items)?;
