@@ -71,10 +71,10 @@ second_place w line start end a r =
 -- ---- forms
 
 begins_so : (front : List ℕ) → Goes front Front → Begins front
-begins_so front g = record { more = g.more; written = g.written; form = sound (front ++ g.more) Front g.written g.takes }
+begins_so front g = record { more = g.more; written = g.written; form = sound (front ++ g.more) Front g.written g.accepts }
 
 goes_so : (front : List ℕ) → Begins front → Goes front Front
-goes_so front b = record { more = b.more; written = b.written; takes = complete (front ++ b.more) b.written b.form }
+goes_so front b = record { more = b.more; written = b.written; accepts = complete (front ++ b.more) b.written b.form }
 
 place_so : (line : List ℕ) (n : ℕ) → Stops line Front n → IsPlace line n
 place_so line n s = record { inside = s.inside; begins = begins_so (take n line) s.begins; longest = λ m l b. s.longest m l (goes_so (take m line) b) }

@@ -1,10 +1,9 @@
 -- What the machine makes of the pieces of a line.
-use Rattle.std.proofs.Common.{◌≡◌, ℕ, ◌+◌, ◌<◌, ◌≤◌, ◌==◌, ◌⊎◌, inl, inr, Bool, true, false, cond, List, [], ◌∷◌, length, drop, Option, Some, None, option_map, Result, Ok, Err, refl, sym, ap, ◌∙◌, arith, subst, length-drop}
-use Rattle.std.proofs.lemmas.Bool.{eqb-true, eq-eqb}
-use Rattle.event_model.specs.Bytes.{stop}
+use Rattle.std.proofs.Common.{◌≡◌, ℕ, ◌+◌, ◌<◌, ◌≤◌, ◌==◌, ◌⊎◌, inl, inr, true, false, cond, List, [], ◌∷◌, length, drop, Option, Some, None, option_map, Result, Ok, Err, refl, sym, ap, ◌∙◌, arith, subst, length-drop}
 use Rattle.event_model.specs.Spans.{PlainSpan}
 use Rattle.event_model.specs.Presence.{Says, Fails}
 use Rattle.event_model.specs.declared.atoms.Atom.{Atom}
+use Rattle.event_model.specs.declared.inputs.Input.{Input}
 use Rattle.event_model.specs.declared.inputs.Input.TheVariants.{Nothing}
 use Rattle.term_reader.specs.declared.faults.TermFault.{TermFault}
 use Rattle.term_reader.specs.declared.faults.TermFault.TheVariants as of_term
@@ -19,16 +18,15 @@ use Rattle.term_reader.specs.Readings.{AtomGiven}
 use Rattle.term_reader.proofs.Loose.{step_loosens, PassesLimit}
 use Rattle.term_reader.proofs.Places.{passes}
 use Rattle.event_reader.specs.declared.parts.Part.{Part}
-use Rattle.event_reader.specs.declared.parts.Part.TheVariants.{Blank, Digit, Hash, Stop}
+use Rattle.event_reader.specs.declared.parts.Part.TheVariants.{Blank, Digit, Hash, Stop, Other}
 use Rattle.event_reader.specs.declared.whens.Times.{Times}
-use Rattle.event_reader.specs.declared.whens.Times.TheVariants.{One, Two}
 use Rattle.event_reader.specs.declared.faults.LineFault.{LineFault}
 use Rattle.event_reader.specs.declared.faults.LineFault.TheVariants as fault
 use Rattle.event_reader.specs.Faults.{line_fault}
 use Rattle.event_reader.specs.EventLines.{Way, When, When.At, When.Between, Written, Written.EmptyLine, Written.EventLine, Written.AdvanceLine, Written.BeginLine, Written.CommitLine, span_of_when, of_event, input_of, begin_word, commit_word}
 use Rattle.event_reader.specs.Machine as way
 use Rattle.event_reader.specs.Machine.{part_of, DigitFits, Kind, State, State.Front, State.Note, State.Spell, State.Mark, State.Gap, State.Start, State.Digits, State.Wait, State.InAtom, State.End, letter_c, spell, first_of, behind_stop, in_atom, over, atom_on, go, step, accepted, Parsed, Parsed.Whole, Parsed.Broken, ended, onward, hear, behind_stops, said_by, said_of}
-use Rattle.event_reader.specs.Reads.{is_blank_part, is_digit_part, begins, starts, PartAt, ByteAt, BreaksBy, StopsBy, SameStops, BlanksRead, GapRead, DigitsAt, TimeRead, TimeGiven, when_of, SpanOf, in_when, TimesRead, AtomRead, event_said, EndAt, SpelledSoFar, AloneAt, word_heard, line_said}
+use Rattle.event_reader.specs.Reads.{is_blank_part, is_digit_part, begins, starts, PartAt, ByteAt, BreaksBy, StopsBy, BlanksRead, GapRead, TimeRead, TimeGiven, when_of, SpanOf, in_when, TimesRead, AtomRead, event_said, AloneAt, word_heard, WordAt, line_said, LineRead}
 use Rattle.event_reader.proofs.Tells.{Tells, part_tells, blank_sign}
 
 -- ---- one step, over what stands at a place
@@ -36,45 +34,12 @@ use Rattle.event_reader.proofs.Tells.{Tells, part_tells, blank_sign}
 pub hear_step : (line : List ℕ) (at : ℕ) (p : Part) (s u : State) → PartAt line at p → ((b : ℕ) → go s p b ≡ Some u) → hear (drop at line) s at ≡ hear (drop (at + 1) line) u (at + 1)
 hear_step line at p s u h e = ap (λ y. hear y s at) h.next ∙ ap (onward (hear (drop (at + 1) line)) at) (ap (λ p. go s p h.byte) h.is ∙ e h.byte)
 
-byte_step : (line : List ℕ) (at b : ℕ) (s u : State) → ByteAt line at b → step s b ≡ Some u → hear (drop at line) s at ≡ hear (drop (at + 1) line) u (at + 1)
-byte_step line at b s u h e = ap (λ y. hear y s at) h.next ∙ ap (onward (hear (drop (at + 1) line)) at) e
-
--- a part that is no stop
-pub stops_step : (line : List ℕ) (at : ℕ) (p : Part) → PartAt line at p → (Stop ≡ p → ⊥) → SameStops line at (at + 1)
-stops_step line at p h other = ap (λ y. behind_stops y at) h.next ∙ by (h.byte == stop) refl
-  where
-    rest : ℕ
-    rest = behind_stops (drop (at + 1) line) (at + 1)
-
-    by : (t : Bool) → (h.byte == stop) ≡ t → cond t (at + 2) rest ≡ rest
-    by true e = absurd (other (sym (ap part_of (eqb-true h.byte stop e)) ∙ h.is))
-    by false e = refl
-
 -- what breaks off stops the line
 pub breaks_stop : (why : LineFault) (place : ℕ) (p : Parsed) → BreaksBy why p → StopsBy why (said_of place p)
 breaks_stop (fault.Syntax at) place p e = ap (said_of place) e
 breaks_stop fault.Memory place p e = tt
 
 -- ---- times
-
--- where no digit begins the bytes
-pub no_digit : (k : Kind) (at : ℕ) (xs : List ℕ) → begins is_digit_part xs ≡ false → hear xs (Start k) at ≡ Broken at
-no_digit k at [] e = refl
-no_digit k at (b ∷ xs) e = ap (onward (hear xs) at) (dark (part_of b) e)
-  where
-    dark : (p : Part) → is_digit_part p ≡ false → go (Start k) p b ≡ None
-    dark (Digit d) e = cc
-    dark p e = refl
-
-pub time_given : (line : List ℕ) (at d : ℕ) (r : Result (ℕ × ℕ) LineFault) → PartAt line at (Digit d) → DigitsAt line d (at + 1) r → TimeGiven (λ k. Start k) line at r
-time_given line at d r a = by r
-  where
-    to_digits : (k : Kind) → hear (drop at line) (Start k) at ≡ hear (drop (at + 1) line) (Digits k d) (at + 1)
-    to_digits k = hear_step line at (Digit d) (Start k) (Digits k d) a (λ b. refl)
-
-    by : (r : Result (ℕ × ℕ) LineFault) → DigitsAt line d (at + 1) r → TimeGiven (λ k. Start k) line at r
-    by (Ok x) h = record { inside = h.0.inside; small = h.0.small; stops = stops_step line at (Digit d) a (λ e. cc) ∙ h.0.stops; reads = λ k. to_digits k ∙ h.0.reads k; over = h.1 }
-    by (Err why) h = λ k. subst (BreaksBy why) (sym (to_digits k)) (h k)
 
 -- where no blank begins the bytes, the gap before a time is over
 gap_over : (k : Kind) (at : ℕ) (xs : List ℕ) → begins is_blank_part xs ≡ false → hear xs (Gap k) at ≡ hear xs (Start k) at
@@ -130,69 +95,6 @@ advance_read line at time end t h = advance_to_end line at time end t ∙ h (Adv
 pub advance_stops : (line : List ℕ) (at time end : ℕ) (why : LineFault) → TimeRead (λ k. Mark k) line at time end → ((i : Written) → BreaksBy why (hear (drop end line) (End i) end))
     → BreaksBy why (hear (drop at line) (Mark way.Kind.OfTime) at)
 advance_stops line at time end why t h = subst (BreaksBy why) (sym (advance_to_end line at time end t)) (h (AdvanceLine time))
-
--- ---- bytes that are to come
-
-pub not_spelled : (c : ℕ) (bytes : List ℕ) (s : State) (at : ℕ) (xs : List ℕ) → starts c xs ≡ false → hear xs (Spell c bytes s) at ≡ Broken at
-not_spelled c bytes s at [] e = refl
-not_spelled c bytes s at (b ∷ xs) e = ap (λ t. onward (hear xs) at (cond t (Some (spell bytes s)) None)) e
-
-pub spelled_on : (line : List ℕ) (at c : ℕ) (bytes : List ℕ) (s : State) → ByteAt line at c → hear (drop at line) (Spell c bytes s) at ≡ hear (drop (at + 1) line) (spell bytes s) (at + 1)
-spelled_on line at c bytes s h = byte_step line at c (Spell c bytes s) (spell bytes s) h (ap (λ t. cond t (Some (spell bytes s)) None) (eq-eqb c c refl))
-
--- ---- when an event happened
-
--- what is no blank, no digit and no stop breaks off behind a time of an event
-time_stuck : (k : Kind) (n at : ℕ) (xs : List ℕ) → accepted (Digits k n) ≡ None → (starts stop xs ≡ false) ⊎ (behind_stop k n ≡ None) → begins is_blank_part xs ≡ false → begins is_digit_part xs ≡ false
-    → hear xs (Digits k n) at ≡ Broken at
-time_stuck k n at [] e f g h = ap (ended at) e
-time_stuck k n at (b ∷ xs) e f g h = ap (onward (hear xs) at) (dark (part_of b) (part_tells b) f g h)
-  where
-    stopped : b ≡ stop → ((b == stop) ≡ false) ⊎ (behind_stop k n ≡ None) → behind_stop k n ≡ None
-    stopped e (inl f) = absurd (let same : true ≡ false = sym (eq-eqb b stop e) ∙ f in cc)
-    stopped e (inr f) = f
-
-    dark : (p : Part) → Tells b p → ((b == stop) ≡ false) ⊎ (behind_stop k n ≡ None) → is_blank_part p ≡ false → is_digit_part p ≡ false → go (Digits k n) p b ≡ None
-    dark Blank t f g h = cc
-    dark (Digit d) t f g h = cc
-    dark Stop t f g h = stopped t f
-    dark p t f g h = refl
-
-pub one_time : (line : List ℕ) (at time end : ℕ) → TimeRead (λ k. Mark k) line at time end → starts stop (drop end line) ≡ false → TimesRead line at (One time) end
-one_time line at time end t e = record {
-  inside = t.inside;
-  fit = t.small;
-  second = tt;
-  reads = λ w. t.reads (way.Kind.OfEvent w);
-  over = λ dark w. time_stuck (way.Kind.OfEvent w) time end (drop end line) refl (inl e) dark t.over;
-}
-
--- behind the first stop
-to_middle : (line : List ℕ) (at time end : ℕ) → TimeRead (λ k. Mark k) line at time end → ByteAt line end stop → (w : Way)
-    → hear (drop at line) (Mark (way.Kind.OfEvent w)) at ≡ hear (drop (end + 1) line) (Spell stop [] (Start (way.Kind.OfSecond w time))) (end + 1)
-to_middle line at time end t b w = t.reads (way.Kind.OfEvent w) ∙ byte_step line end stop (Digits (way.Kind.OfEvent w) time) (Spell stop [] (Start (way.Kind.OfSecond w time))) b refl
-
-pub one_stop : (line : List ℕ) (at time end : ℕ) → TimeRead (λ k. Mark k) line at time end → ByteAt line end stop → starts stop (drop (end + 1) line) ≡ false → (w : Way)
-    → hear (drop at line) (Mark (way.Kind.OfEvent w)) at ≡ Broken (end + 1)
-one_stop line at time end t b e w = to_middle line at time end t b w ∙ not_spelled stop [] (Start (way.Kind.OfSecond w time)) (end + 1) (drop (end + 1) line) e
-
-to_second : (line : List ℕ) (at time end : ℕ) → TimeRead (λ k. Mark k) line at time end → ByteAt line end stop → ByteAt line (end + 1) stop → (w : Way)
-    → hear (drop at line) (Mark (way.Kind.OfEvent w)) at ≡ hear (drop (end + 1 + 1) line) (Start (way.Kind.OfSecond w time)) (end + 1 + 1)
-to_second line at time end t b c w = to_middle line at time end t b w ∙ spelled_on line (end + 1) stop [] (Start (way.Kind.OfSecond w time)) c
-
-pub two_times : (line : List ℕ) (at start end time last : ℕ) → TimeRead (λ k. Mark k) line at start end → ByteAt line end stop → ByteAt line (end + 1) stop
-    → TimeRead (λ k. Start k) line (end + 1 + 1) time last → TimesRead line at (Two start time (end + 1 + 1)) last
-two_times line at start end time last t b c u = record {
-  inside = u.inside;
-  fit = (t.small, u.small);
-  second = let place : end + 1 + 1 ≡ end + 2 = omega arith in place ∙ sym (t.stops ∙ ap (λ y. behind_stops y end) b.next);
-  reads = λ w. to_second line at start end t b c w ∙ u.reads (way.Kind.OfSecond w start);
-  over = λ dark w. time_stuck (way.Kind.OfSecond w start) time last (drop last line) refl (inr refl) dark u.over;
-}
-
-pub second_stops : (line : List ℕ) (at start end : ℕ) (why : LineFault) → TimeRead (λ k. Mark k) line at start end → ByteAt line end stop → ByteAt line (end + 1) stop
-    → ((k : Kind) → BreaksBy why (hear (drop (end + 1 + 1) line) (Start k) (end + 1 + 1))) → (w : Way) → BreaksBy why (hear (drop at line) (Mark (way.Kind.OfEvent w)) at)
-second_stops line at start end why t b c h w = subst (BreaksBy why) (sym (to_second line at start end t b c w)) (h (way.Kind.OfSecond w start))
 
 -- ---- atoms
 
@@ -300,12 +202,6 @@ to_end line at times end start a last t g h w = to_atom line at times end start 
 event_breaks : (line : List ℕ) (at : ℕ) (w : Way) (why : LineFault) (p : Parsed) → hear (drop at line) (Mark (way.Kind.OfEvent w)) at ≡ p → BreaksBy why p → StopsBy why (event_said line at w)
 event_breaks line at w why p e h = breaks_stop why (behind_stops (drop at line) at) _ (subst (BreaksBy why) (sym e) h)
 
-pub times_fail : (line : List ℕ) (at : ℕ) (why : LineFault) → ((w : Way) → BreaksBy why (hear (drop at line) (Mark (way.Kind.OfEvent w)) at)) → (w : Way) → StopsBy why (event_said line at w)
-times_fail line at why h w = event_breaks line at w why _ refl (h w)
-
-pub gap_fails : (line : List ℕ) (at : ℕ) (times : Times) (end : ℕ) → TimesRead line at times end → begins is_blank_part (drop end line) ≡ false → (w : Way) → event_said line at w ≡ Fails end
-gap_fails line at times end t dark w = ap (said_of (behind_stops (drop at line) at)) (t.reads w ∙ t.over dark w)
-
 pub atom_fails : (line : List ℕ) (at : ℕ) (times : Times) (end start : ℕ) (why : LineFault) → TimesRead line at times end → GapRead line end start
     → ((w : Way) (when : When) → BreaksBy why (hear (drop start line) (Wait w when) start)) → (w : Way) → StopsBy why (event_said line at w)
 atom_fails line at times end start why t g h w = event_breaks line at w why _ (to_atom line at times end start t g w) (h w (when_of times))
@@ -334,10 +230,6 @@ event_read line at times end start a last span t g h k f w =
     event_whole line at times end start a last t g h k w ∙ ap (λ o. said_by (behind_stops (drop at line) at) (option_map (of_event w a) o)) f
 
 -- ---- words
-
-pub alone_given : (line : List ℕ) (at : ℕ) (word : List ℕ) (end : ℕ) (r : Result (Unit {0}) LineFault) → SpelledSoFar line at word [] end → EndAt line end r → AloneAt line at word r
-alone_given line at word end (Ok u) s h = λ i. s.reads (End i) ∙ h i
-alone_given line at word end (Err why) s h = λ i. subst (BreaksBy why) (sym (s.reads (End i))) (h i)
 
 -- by its first letter it is one word or the other
 abbrev pub ByWord : List ℕ → ℕ → List ℕ → Written → Type 0
@@ -377,3 +269,20 @@ pub comment_read : (line : List ℕ) (start : ℕ) (p : Part) → BlanksRead lin
 comment_read line start p b a e =
     ap (said_of (behind_stops line 0))
     (to_part line start b ∙ hear_step line start Hash Front Note (subst (PartAt line start) e a) (λ b. refl) ∙ noted (drop (start + 1) line) (start + 1))
+
+-- at a byte of no other form stands a word
+pub word_line : (line : List ℕ) (start : ℕ) (p : Part) (r : Result Input LineFault) → BlanksRead line 0 start → PartAt line start p → p ≡ Other → WordAt line start r → LineRead line r
+word_line line start p r b a e = by r
+  where
+    to_word : hear line Front 0 ≡ word_heard (drop start line) start
+    to_word =
+        to_part line start b ∙ ap (λ y. hear y Front start) a.next
+        ∙ ap (onward (hear (drop (start + 1) line)) start) (ap (λ p. go Front p a.byte) (a.is ∙ e))
+        ∙ sym (ap (λ y. word_heard y start) a.next)
+
+    same : line_said line ≡ said_of (behind_stops line 0) (word_heard (drop start line) start)
+    same = ap (said_of (behind_stops line 0)) to_word
+
+    by : (r : Result Input LineFault) → WordAt line start r → LineRead line r
+    by (Ok input) h = same ∙ h (behind_stops line 0)
+    by (Err why) h = subst (StopsBy why) (sym same) (h (behind_stops line 0))

@@ -373,7 +373,7 @@ closed : (s : State) (i : Written) (o : Option Written) → Closes s o → o ≡
 closed s i None c e = cc
 closed s i (Some j) c e = let same : j ≡ i = cc in subst (λ i. Rest s i []) same c
 
--- what the machine takes has the form that its state leaves
+-- what the machine accepts has the form that its state leaves
 pub sound : (xs : List ℕ) (s : State) (i : Written) → final xs s ≡ Some i → Rest s i xs
 sound [] s i e = closed s i (accepted s) (closes s) e
 sound (b ∷ xs) s i e = at (step s b) (keeps s (part_of b) b xs (part_tells b)) e (sound xs)

@@ -104,10 +104,10 @@ ready_on (End i) p b r = tt
 pub record Goes (xs : List ℕ) (s : State) : Type 0 where
   pub more : List ℕ
   pub written : Written
-  pub takes : final (xs ++ more) s ≡ Some written
+  pub accepts : final (xs ++ more) s ≡ Some written
 
 goes_by : (s : State) (more : List ℕ) (i : Written) → final more s ≡ Some i → Goes [] s
-goes_by s more i e = record { more = more; written = i; takes = e }
+goes_by s more i e = record { more = more; written = i; accepts = e }
 
 goes_atom : (w : Way) (n : When) (s : atom.State) → Reached s → Goes [] (InAtom w n s)
 goes_atom w n s r =
@@ -136,7 +136,7 @@ goes_time way.Kind.OfTime n = goes_by (Digits way.Kind.OfTime n) [] (AdvanceLine
 
 -- what may stand before what follows
 goes_before : (front : List ℕ) (s u : State) → ((xs : List ℕ) → final (front ++ xs) s ≡ final xs u) → Goes [] u → Goes [] s
-goes_before front s u h g = record { more = front ++ g.more; written = g.written; takes = h g.more ∙ g.takes }
+goes_before front s u h g = record { more = front ++ g.more; written = g.written; accepts = h g.more ∙ g.accepts }
 
 goes : (s : State) → Ready s → Goes [] s
 goes Front r = goes_by Front [] EmptyLine refl
@@ -167,14 +167,14 @@ means_end s at r (Some i) e = e
 means_end s at r None e = (0, omega arith, record { inside = omega arith; begins = goes s r; longest = λ m h g. h }, e)
 
 goes_on : (b : ℕ) (xs : List ℕ) (s u : State) → step s b ≡ Some u → Goes xs u → Goes (b ∷ xs) s
-goes_on b xs s u e g = record { more = g.more; written = g.written; takes = ap (option_and_then (final (xs ++ g.more))) e ∙ g.takes }
+goes_on b xs s u e g = record { more = g.more; written = g.written; accepts = ap (option_and_then (final (xs ++ g.more))) e ∙ g.accepts }
 
 gone_on : (b : ℕ) (xs : List ℕ) (s u : State) → step s b ≡ Some u → Goes (b ∷ xs) s → Goes xs u
-gone_on b xs s u e g = record { more = g.more; written = g.written; takes = sym (ap (option_and_then (final (xs ++ g.more))) e) ∙ g.takes }
+gone_on b xs s u e g = record { more = g.more; written = g.written; accepts = sym (ap (option_and_then (final (xs ++ g.more))) e) ∙ g.accepts }
 
 stuck : (b : ℕ) (xs : List ℕ) (s : State) → step s b ≡ None → (m : ℕ) → Goes (take m (b ∷ xs)) s → m ≤ 0
 stuck b xs s e zero g = omega arith
-stuck b xs s e (suc m) g = absurd (let f : None ≡ Some g.written = sym (ap (option_and_then (final (take m xs ++ g.more))) e) ∙ g.takes in cc)
+stuck b xs s e (suc m) g = absurd (let f : None ≡ Some g.written = sym (ap (option_and_then (final (take m xs ++ g.more))) e) ∙ g.accepts in cc)
 
 further : (b : ℕ) (xs : List ℕ) (s u : State) (n : ℕ) → step s b ≡ Some u → Stops xs u n → (m : ℕ) → m ≤ suc (length xs) → Goes (take m (b ∷ xs)) s → m ≤ suc n
 further b xs s u n e h zero l g = omega arith

@@ -1,6 +1,7 @@
 -- What a reading function gives, in every state of the machine in which it is called.
 use Rattle.std.specs.Prelude.{◌≡◌, ℕ, ◌+◌, ◌<◌, ◌≤◌, ◌==◌, Bool, true, false, List, [], ◌∷◌, length, drop, Option, Some, None, Result, Ok, Err}
 use Rattle.event_model.specs.Spans.{PlainSpan}
+use Rattle.event_model.specs.Events.{span_of}
 use Rattle.event_model.specs.Presence.{Said, Says, Fails}
 use Rattle.event_model.specs.declared.atoms.Atom.{Atom}
 use Rattle.event_model.specs.declared.events.Event.{Event}
@@ -192,7 +193,7 @@ abbrev pub event_said : List ℕ → ℕ → Way → Said
 event_said line at w = said_of (behind_stops (drop at line) at) (hear (drop at line) (Mark (OfEvent w)) at)
 
 abbrev pub EventAt : List ℕ → ℕ → Result Event LineFault → Type 0
-EventAt line at (Ok e) = (w : Way) → event_said line at w ≡ Says (of_event w e.atom e.span)
+EventAt line at (Ok e) = (w : Way) → event_said line at w ≡ Says (of_event w e.atom (span_of e))
 EventAt line at (Err why) = (w : Way) → StopsBy why (event_said line at w)
 
 -- ---- words

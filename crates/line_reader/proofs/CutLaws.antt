@@ -82,21 +82,3 @@ lines_of-given (raw ∷ raws) left all h =
     let same : with_feeds (raw ∷ raws) ++ left ≡ raw ++ feed ∷ more = append_assoc (raw ++ feed ∷ []) (with_feeds raws) left ∙ append_assoc raw (feed ∷ []) more in
     ap lines_of same ∙ ap (λ l. l ++ last_line (rest (raw ++ feed ∷ more))) (ended-line raw more all.0) ∙ ap (λ l. without_cr raw ∷ (ended more ++ last_line l)) (rest-line raw more all.0)
     ∙ ap (λ l. without_cr raw ∷ l) (lines_of-given raws left all.1 h)
-
--- ---- what was fed is the lines given, each with its line feed, and what is held
-
--- a piece that is fed stands behind what is held
-pub fed_more : (all piece held : List ℕ) (raws : List (List ℕ)) → all ≡ with_feeds raws ++ held → all ++ piece ≡ with_feeds raws ++ (held ++ piece)
-fed_more all piece held raws e = ap (λ l. l ++ piece) e ∙ append_assoc (with_feeds raws) held piece
-
--- a line that is given goes from what is held to the lines given
-pub given_more : (all held raw more : List ℕ) (raws : List (List ℕ)) → all ≡ with_feeds raws ++ held → held ≡ raw ++ feed ∷ more → all ≡ with_feeds (raws ++ raw ∷ []) ++ more
-given_more all held raw more raws e f = e ∙ ap (λ l. with_feeds raws ++ l) f ∙ sym (moved raws)
-  where
-    moved : (raws : List (List ℕ)) → with_feeds (raws ++ raw ∷ []) ++ more ≡ with_feeds raws ++ (raw ++ feed ∷ more)
-    moved [] = append_assoc (raw ++ feed ∷ []) [] more ∙ append_assoc raw (feed ∷ []) more
-    moved (r ∷ rs) = append_assoc (r ++ feed ∷ []) (with_feeds (rs ++ raw ∷ [])) more ∙ ap (λ l. r ++ feed ∷ [] ++ l) (moved rs) ∙ sym (append_assoc (r ++ feed ∷ []) (with_feeds rs) (raw ++ feed ∷ more))
-
-pub lines_more : (raw : List ℕ) (raws : List (List ℕ)) → AreLines raws → NoFeed raw → AreLines (raws ++ raw ∷ [])
-lines_more raw [] all h = (h, tt)
-lines_more raw (r ∷ rs) all h = (all.0, lines_more raw rs all.1 h)
