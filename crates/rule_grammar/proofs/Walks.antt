@@ -1,6 +1,5 @@
 -- The machine reads each text of the grammar.
 use Rattle.std.proofs.Common.{◌≡◌, ℕ, ◌+◌, List, [], ◌∷◌, Option, Some, option_and_then, refl, ap, ◌∙◌}
-use Rattle.rule_ast.specs.declared.conditions.Cmp.{Cmp}
 use Rattle.rule_lexer.specs.declared.terminals.Terminal.{Terminal}
 use Rattle.rule_lexer.specs.declared.terminals.Terminal.TheVariants as t
 use Rattle.rule_grammar.specs.Trees.{Literal, Literal.Digits, Literal.Minus, Literal.Least, Literal.Symbol, Literal.Quoted, Term, Term.Leaf, Term.Lone, Term.Compound, Arguments, Arguments.First, Arguments.Next}

@@ -13,7 +13,7 @@ use Rattle.rule_grammar.specs.Trees.{Literal, Literal.Digits, Literal.Minus, Lit
 use Rattle.rule_grammar.specs.Trees.{Condition.OneAll, Condition.MoreAll, All, All.OneNegation, All.MoreNegation, Negation.Negated, Negation.Compared, Comparison.OneSum, Comparison.TwoSums, Sum, Sum.OneProduct, Sum.MoreProduct, Product, Product.OneUnit, Product.MoreUnit, Unit', Unit'.Value, Unit'.Grouped}
 use Rattle.rule_grammar.specs.Marks.{Marked, Counted, count, count_all, passed}
 use Rattle.rule_grammar.specs.Marks.{Role.Quiet, Role.Single, Role.Binary, Role.Nests, Role.Deepens}
-use Rattle.rule_grammar.specs.Tokens.{literal, sum, arguments, unit, product, negation, all, adding, scaling}
+use Rattle.rule_grammar.specs.Tokens.{literal, sum, arguments, negation, adding, scaling}
 use Rattle.rule_grammar.specs.Lists.{Before.Start, Nest.Outside, ListState.WantTerm, behind_terms}
 use Rattle.rule_grammar.specs.Machine.{Where'.InGroup, OrHead, OrHead.FirstAll, OrHead.NextAll, AndHead.FirstNegation, AndHead.NextNegation, NotHead, NotHead.NoBang, NotHead.Bang, CompareHead, CompareHead.FirstSum, CompareHead.SecondSum, SumHead, SumHead.FirstProduct, SumHead.NextProduct, ProductHead, ProductHead.FirstUnit, ProductHead.NextUnit}
 use Rattle.rule_grammar.specs.Machine.{State.WantNegation, State.WantUnit, State.UnitMinus, State.UnitName, State.InOperand}
@@ -49,6 +49,28 @@ link_fails {L = L} {E = E} link {r2 = r2} err a e n p f fails c q =
 pub earlier : {C T C' T' V V' : Type 0} {L : Level C T} {E : Level C' T'} {value : List (List ℕ) → T → V} {value' : List (List ℕ) → T' → V'} {ts r1 r2 rest : List Terminal} {d : ℕ} {g g1 g' : Counted} {v : V} {v' : V'}
     → (a : Read L value ts d g g1 v r1) → Read E value' r2 d (with_part g1) g' v' rest → (names : List (List ℕ)) → Extends g'.names names → value names a.tree ≡ v
 earlier a b names q = a.says names (extends_trans b.grows q)
+
+-- A tree is read of two with a token of one part between them.
+pub linked : {C T C' T' V V' : Type 0} {L : Level C T} {E : Level C' T'} {x : Terminal} (link : Link L E x) {value : List (List ℕ) → T → V} {value' : List (List ℕ) → T' → V'}
+    {ts r1 r2 rest : List Terminal} {d : ℕ} {g g1 g2 g' : Counted} {u w : V} {v : V'} (join : T → T' → T)
+    → (a : Read L value ts d g g1 u r1) → r1 ≡ x ∷ r2 → count g1 (Binary, x) ≡ with_part g1 → g2 ≡ with_part g1 → Fine (with_part g1) → (b : Read E value' r2 d g2 g' v rest)
+    → ((names : List (List ℕ)) → value names a.tree ≡ u → value' names b.tree ≡ v → value names (join a.tree b.tree) ≡ w)
+    → ((more : List Marked) → L.tokens d (join a.tree b.tree) more ≡ L.tokens d a.tree ((Binary, x) ∷ E.tokens d b.tree more))
+    → ((c : C) → resume (E.behind (link.next c a.tree) b.tree) rest g' ≡ resume (L.behind c (join a.tree b.tree)) rest g')
+    → Read L value ts d g g' w rest
+linked {L = L} {E = E} {x = x} link {r2 = r2} {d = d} {g = g} {g' = g'} join a e n p f b says tokens over =
+    let grows : Extends _ g'.names = subst (λ y. Extends y.names g'.names) p b.grows in
+    record {
+      tree = join a.tree b.tree;
+      says = λ names q. says names (a.says names (extends_trans grows q)) (b.says names q);
+      grows = extends_trans a.grows grows;
+      fine = b.fine;
+      shorter = omega (arith, a.shorter, ap length e, b.shorter);
+      counts = λ more. ap (count_all g) (tokens more) ∙ a.counts ((Binary, x) ∷ E.tokens d b.tree more) ∙ ap (λ y. count_all y (E.tokens d b.tree more)) (n ∙ sym p) ∙ b.counts more;
+      runs = λ c q.
+          link_on link a e n f c q ∙ ap (λ y. run r2 y (E.state (link.next c a.tree))) (sym p)
+          ∙ b.runs (link.next c a.tree) (link.deep c a.tree ∙ q) ∙ over c;
+    }
 
 abbrev pub scaling_link : (op : Scaling) → Link product_level unit_level (scaling op)
 scaling_link op = record { next = λ h p. NextUnit h p op; goes = λ h p. at op h p; deep = λ h p. refl }
@@ -221,17 +243,8 @@ product_one u = alone OneUnit u (λ names. refl) (λ more. refl) (λ h q. u.runs
 
 pub product_more : {ts r1 r2 rest : List Terminal} {d : ℕ} {g g1 g2 g' : Counted} {u v w : PlainCond} (op : Scaling) → Read product_level product_value ts d g g1 u r1 → r1 ≡ scaling op ∷ r2 → g2 ≡ with_part g1 → Fine (with_part g1)
     → Read unit_level unit_value r2 d g2 g' v rest → w ≡ plain.Calculate (scaling_value op) u v → Read product_level product_value ts d g g' w rest
-product_more {ts} {r1} {r2} {rest} {d} {g} {g1} {g2} {g'} {u} {v} op a e p f b0 s =
-    let b : Read unit_level unit_value r2 d (with_part g1) g' v rest = subst (λ y. Read unit_level unit_value r2 d y g' v rest) p b0 in
-    record {
-      tree = MoreUnit a.tree op b.tree;
-      says = λ names q. cc (earlier a b names q, b.says names q, s);
-      grows = extends_trans a.grows b.grows;
-      fine = b.fine;
-      shorter = omega (arith, a.shorter, ap length e, b.shorter);
-      counts = λ more. a.counts ((Binary, scaling op) ∷ unit d b.tree more) ∙ ap (λ y. count_all y (unit d b.tree more)) (scaling_counts g1 op) ∙ b.counts more;
-      runs = λ h q. link_on (scaling_link op) a e (scaling_counts g1 op) f h q ∙ b.runs (NextUnit h a.tree op) q;
-    }
+product_more {g1 = g1} op a e p f b s =
+    linked (scaling_link op) (λ l r. MoreUnit l op r) a e (scaling_counts g1 op) p f b (λ names m n. cc) (λ more. refl) (λ h. refl)
 
 -- Sums.
 
@@ -248,17 +261,9 @@ sum_one {rest = rest} {g' = g'} p l =
 
 pub sum_more : {ts r1 r2 rest : List Terminal} {d : ℕ} {g g1 g2 g' : Counted} {u v w : PlainCond} (op : Adding) → Read sum_level sum_value ts d g g1 u r1 → r1 ≡ adding op ∷ r2 → g2 ≡ with_part g1 → Fine (with_part g1)
     → Read product_level product_value r2 d g2 g' v rest → LacksScaling rest → w ≡ plain.Calculate (adding_value op) u v → Read sum_level sum_value ts d g g' w rest
-sum_more {ts} {r1} {r2} {rest} {d} {g} {g1} {g2} {g'} {u} {v} op a e p f b0 l s =
-    let b : Read product_level product_value r2 d (with_part g1) g' v rest = subst (λ y. Read product_level product_value r2 d y g' v rest) p b0 in
-    record {
-      tree = MoreProduct a.tree op b.tree;
-      says = λ names q. cc (earlier a b names q, b.says names q, s);
-      grows = extends_trans a.grows b.grows;
-      fine = b.fine;
-      shorter = omega (arith, a.shorter, ap length e, b.shorter);
-      counts = λ more. a.counts ((Binary, adding op) ∷ product d b.tree more) ∙ ap (λ y. count_all y (product d b.tree more)) (adding_counts g1 op) ∙ b.counts more;
-      runs = λ c q. link_on (adding_link op) a e (adding_counts g1 op) f c q ∙ b.runs (NextProduct c a.tree op) q ∙ product_over (NextProduct c a.tree op) b.tree rest g' l;
-    }
+sum_more {rest = rest} {g1 = g1} {g' = g'} op a e p f b l s =
+    linked (adding_link op) (λ l r. MoreProduct l op r) a e (adding_counts g1 op) p f b (λ names m n. cc) (λ more. refl)
+    (λ c. product_over (NextProduct c a.tree op) b.tree rest g' l)
 
 -- Comparisons.
 
@@ -335,17 +340,7 @@ all_one n = alone OneNegation n (λ names. refl) (λ more. refl) (λ o q. n.runs
 
 pub all_more : {ts r1 r2 rest : List Terminal} {d : ℕ} {g g1 g2 g' : Counted} {u v w : PlainCond} → Read all_level all_value ts d g g1 u r1 → r1 ≡ t.Both ∷ r2 → g2 ≡ with_part g1 → Fine (with_part g1)
     → Read negation_level negation_value r2 d g2 g' v rest → w ≡ plain.AndAlso u v → Read all_level all_value ts d g g' w rest
-all_more {ts} {r1} {r2} {rest} {d} {g} {g1} {g2} {g'} {u} {v} a e p f b0 s =
-    let b : Read negation_level negation_value r2 d (with_part g1) g' v rest = subst (λ y. Read negation_level negation_value r2 d y g' v rest) p b0 in
-    record {
-      tree = MoreNegation a.tree b.tree;
-      says = λ names q. cc (earlier a b names q, b.says names q, s);
-      grows = extends_trans a.grows b.grows;
-      fine = b.fine;
-      shorter = omega (arith, a.shorter, ap length e, b.shorter);
-      counts = λ more. a.counts ((Binary, t.Both) ∷ negation d b.tree more) ∙ b.counts more;
-      runs = λ o q. link_on both_link a e refl f o q ∙ b.runs (NoBang (NextNegation o a.tree)) q;
-    }
+all_more a e p f b s = linked both_link MoreNegation a e refl p f b (λ names m n. cc) (λ more. refl) (λ o. refl)
 
 all_over : (o : OrHead) (a : All) (rest : List Terminal) (g : Counted) → Lacks sign.Both rest → resume (behind_all o a) rest g ≡ resume (behind_condition (over_condition o a).0 (over_condition o a).1) rest g
 all_over o a [] g l = refl
@@ -358,14 +353,5 @@ condition_one {rest = rest} {g' = g'} a l =
 
 pub condition_more : {ts r1 r2 rest : List Terminal} {d : ℕ} {g g1 g2 g' : Counted} {u v w : PlainCond} → Read condition_level condition_value ts d g g1 u r1 → r1 ≡ t.Either ∷ r2 → g2 ≡ with_part g1 → Fine (with_part g1)
     → Read all_level all_value r2 d g2 g' v rest → Lacks sign.Both rest → w ≡ plain.OrElse u v → Read condition_level condition_value ts d g g' w rest
-condition_more {ts} {r1} {r2} {rest} {d} {g} {g1} {g2} {g'} {u} {v} a e p f b0 l s =
-    let b : Read all_level all_value r2 d (with_part g1) g' v rest = subst (λ y. Read all_level all_value r2 d y g' v rest) p b0 in
-    record {
-      tree = MoreAll a.tree b.tree;
-      says = λ names q. cc (earlier a b names q, b.says names q, s);
-      grows = extends_trans a.grows b.grows;
-      fine = b.fine;
-      shorter = omega (arith, a.shorter, ap length e, b.shorter);
-      counts = λ more. a.counts ((Binary, t.Either) ∷ all d b.tree more) ∙ b.counts more;
-      runs = λ w q. link_on either_link a e refl f w q ∙ b.runs (NextAll w a.tree) q ∙ all_over (NextAll w a.tree) b.tree rest g' l;
-    }
+condition_more {rest = rest} {g' = g'} a e p f b l s =
+    linked either_link MoreAll a e refl p f b (λ names m n. cc) (λ more. refl) (λ w. all_over (NextAll w a.tree) b.tree rest g' l)

@@ -16,9 +16,9 @@ use Rattle.rule_grammar.specs.declared.faults.Fault.TheVariants as fault
 use Rattle.rule_grammar.specs.Trees.{Literal, Literal.Digits, Literal.Minus, Literal.Least, Literal.Symbol, Literal.Quoted, Term.Lone, Term.Compound}
 use Rattle.rule_grammar.specs.Trees.{HeadTerm.Leading, HeadTerm.Fixed, HeadTerms, HeadTerms.FirstTerm, HeadTerms.NextTerm, Heading, Heading.Plainly, Heading.Applied}
 use Rattle.rule_grammar.specs.Trees.{Items.OneItem, Items.MoreItem, Statement.Clause, Statement.Shown, Statements, Statements.Empty, Statements.Then}
-use Rattle.rule_grammar.specs.Marks.{Marked, Counted, nothing_counted, count_all, passed}
+use Rattle.rule_grammar.specs.Marks.{Counted, nothing_counted, count_all, passed}
 use Rattle.rule_grammar.specs.Marks.{Role.Quiet, Role.Starts, Role.Deepens, Role.Counts, Role.Lists, Role.HasArity}
-use Rattle.rule_grammar.specs.Tokens.{literal, head_terms, statement, number_of, count_of_terms, tree, head_term}
+use Rattle.rule_grammar.specs.Tokens.{head_terms, statement, number_of, count_of_terms, tree, head_term}
 use Rattle.rule_grammar.specs.Lists.{Before.Start, Nest.Outside, ListState.WantTerm, behind_terms}
 use Rattle.rule_grammar.specs.Machine.{ChainHead.FirstPart, TermsHead, TermsHead.FirstOfHead, TermsHead.NextOfHead, ItemsHead, ItemsHead.FirstShown, ItemsHead.NextShown, put_item, put_head, Stack.Body}
 use Rattle.rule_grammar.specs.Machine.{State.Between, State.HeadName, State.WantHeadTerm, State.HeadMinus, State.HeadWord, State.HaveHeadTerms, State.InHead, State.HaveHead, State.WantItem, State.ItemName, State.ItemSlash, State.HaveItems, State.WantPart}
@@ -30,8 +30,8 @@ use Rattle.rule_parser.specs.Signs.{Lacks}
 use Rattle.rule_parser.specs.Steps.{Fine, with_variable, Extends, Fails, resume, Read, terms_of, ListRead, word_tokens, IsNoSymbol, WordRead}
 use Rattle.rule_grammar.specs.Values.{slot_of, head_term_value, head_terms_value, tree_value, heading_value, names_of, statement_value}
 use Rattle.rule_parser.proofs.Names.{extends_refl, extends_trans, extends_name}
-use Rattle.rule_parser.specs.Steps.{tree_level, head_term_level, head_terms_level, HeadListRead, HeadRead, StatementRead, ItemRead, ItemsRead, NextRead, FileRead, WholeRead, named_state, shown_state}
-use Rattle.rule_parser.proofs.TermRuns.{run_on, run_off, resume_on, resume_off, by_role_alone, quiet, fits, exceeds, fails_along, word_shorter, word_counts}
+use Rattle.rule_parser.specs.Steps.{tree_level, head_term_level, head_terms_level, HeadListRead, HeadRead, StatementRead, ItemRead, ItemsRead, NextRead, FileRead, named_state, shown_state}
+use Rattle.rule_parser.proofs.TermRuns.{run_on, resume_on, resume_off, by_role_alone, quiet, fits, exceeds, fails_along, word_shorter, word_counts}
 
 -- Terms of heads.
 

@@ -14,7 +14,7 @@ use Rattle.rule_grammar.specs.Trees.{Condition}
 use Rattle.rule_grammar.specs.Trees.{Tree, Tree.Plain, Tree.Filtered, Chain, Chain.One, Chain.More, Part.Bare, Part.Atom, Part.Without, Part.Rounded, Round, Round.Bracketed, Round.Exactly, Round.AtMost}
 use Rattle.rule_grammar.specs.Marks.{Marked, Counted, count, count_all}
 use Rattle.rule_grammar.specs.Marks.{Role.Quiet, Role.Single, Role.Binary, Role.Nests, Role.Lasts}
-use Rattle.rule_grammar.specs.Tokens.{tree, arguments, wanted, part, condition, joint}
+use Rattle.rule_grammar.specs.Tokens.{tree, arguments, wanted, joint}
 use Rattle.rule_grammar.specs.Lists.{Before.Start, Nest.Outside, ListState.WantTerm, behind_terms}
 use Rattle.rule_grammar.specs.Machine.{ChainHead, ChainHead.FirstPart, ChainHead.NextPart, put, Stack, Stack.InRound, Stack.InNot, Stack.InBefore, Stack.InAfter, Where'.InWhere}
 use Rattle.rule_grammar.specs.Machine.{State.WantPart, State.AtomName, State.InAtom, State.WantOpen, State.WantLimits, State.HavePart, State.HaveRound, State.WantExact, State.WantMost}
@@ -28,7 +28,7 @@ use Rattle.rule_parser.proofs.Names.{extends_refl, extends_trans}
 use Rattle.rule_parser.specs.Signs.{LacksBound, bound_terminal, bounded_value}
 use Rattle.rule_parser.specs.Steps.{Link, LengthRead, part_level, round_level, chain_level, tree_level, condition_level}
 use Rattle.rule_parser.proofs.TermRuns.{run_on, resume_on, by_role_alone, quiet, fits, alone}
-use Rattle.rule_parser.proofs.CondRuns.{link_on, earlier}
+use Rattle.rule_parser.proofs.CondRuns.{linked}
 
 part_resumes : (c : Chain) (k : Stack) (rest : List Terminal) (g : Counted) → run rest g (HavePart c k) ≡ resume (behind_chain k c) rest g
 part_resumes c k [] g = refl
@@ -195,17 +195,8 @@ chain_one p = alone One p (λ names. refl) (λ more. refl) (λ k q. p.runs (Firs
 
 pub chain_more : {ts r1 r2 rest : List Terminal} {d : ℕ} {g g1 g2 g' : Counted} {u v w : PlainPattern} (j : Joint) → Read chain_level chain_value ts d g g1 u r1 → r1 ≡ joint j ∷ r2 → g2 ≡ with_part g1 → Fine (with_part g1)
     → Read part_level part_value r2 d g2 g' v rest → w ≡ joined_value j u v → Read chain_level chain_value ts d g g' w rest
-chain_more {ts} {r1} {r2} {rest} {d} {g} {g1} {g2} {g'} {u} {v} j a e p f b0 s =
-    let b : Read part_level part_value r2 d (with_part g1) g' v rest = subst (λ y. Read part_level part_value r2 d y g' v rest) p b0 in
-    record {
-      tree = More a.tree j b.tree;
-      says = λ names q. cc (earlier a b names q, b.says names q, s);
-      grows = extends_trans a.grows b.grows;
-      fine = b.fine;
-      shorter = omega (arith, a.shorter, ap length e, b.shorter);
-      counts = λ more. a.counts ((Binary, joint j) ∷ part d b.tree more) ∙ ap (λ y. count_all y (part d b.tree more)) (joint_counts g1 j) ∙ b.counts more;
-      runs = λ k q. link_on (joint_link j) a e (joint_counts g1 j) f k q ∙ b.runs (NextPart a.tree j, k) q;
-    }
+chain_more {g1 = g1} j a e p f b s =
+    linked (joint_link j) (λ l r. More l j r) a e (joint_counts g1 j) p f b (λ names m n. cc) (λ more. refl) (λ k. refl)
 
 chain_over : (k : Stack) (c : Chain) (rest : List Terminal) (g : Counted) → LacksJoint rest → resume (behind_chain k c) rest g ≡ resume (behind k (Plain c)) rest g
 chain_over k c [] g l = refl
@@ -224,17 +215,8 @@ where_over p k c (x ∷ xs) g l = refl
 
 pub tree_where : {ts r1 r2 rest : List Terminal} {d : ℕ} {g g1 g2 g' : Counted} {u w : PlainPattern} {v : PlainCond} → Read tree_level tree_value ts d g g1 u r1 → r1 ≡ t.Where ∷ r2 → g2 ≡ with_part g1 → Fine (with_part g1)
     → Read condition_level condition_value r2 d g2 g' v rest → Lacks sign.Either rest → w ≡ plain.Where u v → Read tree_level tree_value ts d g g' w rest
-tree_where {ts} {r1} {r2} {rest} {d} {g} {g1} {g2} {g'} {u} {w} {v} a e p f b0 l s =
-    let b : Read condition_level condition_value r2 d (with_part g1) g' v rest = subst (λ y. Read condition_level condition_value r2 d y g' v rest) p b0 in
-    record {
-      tree = Filtered a.tree b.tree;
-      says = λ names q. cc (earlier a b names q, b.says names q, s);
-      grows = extends_trans a.grows b.grows;
-      fine = b.fine;
-      shorter = omega (arith, a.shorter, ap length e, b.shorter);
-      counts = λ more. a.counts ((Binary, t.Where) ∷ condition d b.tree more) ∙ b.counts more;
-      runs = λ k q. link_on where_link a e refl f k q ∙ b.runs (InWhere a.tree k) q ∙ where_over a.tree k b.tree rest g' l;
-    }
+tree_where {rest = rest} {g' = g'} a e p f b l s =
+    linked where_link Filtered a e refl p f b (λ names m n. cc) (λ more. refl) (λ k. where_over a.tree k b.tree rest g' l)
 
 after_stuck : (h : ChainHead) (i b : Tree) (k : Stack) (p : Tree) (rest : List Terminal) (g : Counted) → Lacks sign.Where rest → Lacks sign.Square rest → resume (behind (InAfter h i b k) p) rest g ≡ Err (fault.Syntax (length rest))
 after_stuck h i b k p [] g w l = refl

@@ -11,7 +11,7 @@ use Rattle.term_reader.specs.declared.signs.Sign.TheVariants.{Space, Tab, Digit,
 use Rattle.term_reader.specs.Signs.{sign_of}
 use Rattle.term_reader.specs.Grammar.{Blanks, Blanks.NoBlank, Blanks.MoreSpace, Blanks.MoreTab, Digits, Digits.OneDigit, Word, Tree, Tree.Number, Tree.Name, Tree.Text, Tree.Comp, Args, Args.OneArg, Args.MoreArg, signed, fits, in_range, has_room, value, values, width}
 use Rattle.term_reader.specs.Machine.{Stack, Stack.Top, Stack.First, Stack.Next, State, State.Want, State.InWord, State.Negative, State.InNumber, State.InText, State.Behind, step, said, guard, opened}
-use Rattle.term_reader.specs.Steps.{Kind.Bad, Kind.Deep, Kind.Wide, Outcome, Outcome.Stops, run, onward, halted, ended}
+use Rattle.term_reader.specs.Steps.{Kind.Bad, Kind.Wide, Outcome, Outcome.Stops, run, onward, halted, ended}
 use Rattle.term_reader.specs.Readings.{SignAt, begins, is_word, is_open, is_digit, is_blank, is_mark, Fails, NumberAt, NegativeAt, TreeAt, NameRead, DigitsRead, NumberRead, NegativeRead, TextRead, TreeRead, BlanksRead, ArgRead, ArgsSoFar, ArgsRead, frame, with_arg, values_of, width_of}
 use Rattle.term_reader.proofs.Forms.{run_step, run_limit}
 

@@ -1,13 +1,13 @@
 -- What was read so far, with what stands next, is more that was read.
-use Rattle.std.proofs.Common.{◌≡◌, ℕ, ◌+◌, ◌*◌, ◌-◌, ◌/◌, ◌<◌, ◌≤◌, ◌⊎◌, inl, inr, Bool, true, false, List, [], ◌∷◌, length, drop, Some, None, refl, sym, ap, ◌∙◌, arith, subst, IsUtf8}
-use Rattle.std.proofs.lemmas.Bool.{le-leb, lt-leb, lt-ltb, le-ltb}
+use Rattle.std.proofs.Common.{◌≡◌, ℕ, ◌+◌, ◌*◌, ◌-◌, ◌/◌, ◌<◌, ◌≤◌, ◌⊎◌, inl, inr, Bool, true, false, List, ◌∷◌, length, drop, Some, None, refl, sym, ap, ◌∙◌, arith, subst, IsUtf8}
+use Rattle.std.proofs.lemmas.Bool.{le-leb, lt-ltb}
 use Rattle.term_reader.specs.declared.signs.Sign.{Sign}
 use Rattle.term_reader.specs.declared.signs.Sign.TheVariants.{Space, Tab, Digit, Lower, Upper}
 use Rattle.term_reader.specs.Signs.{DigitFits}
-use Rattle.term_reader.specs.Grammar.{Blanks, Blanks.MoreSpace, Blanks.MoreTab, Digits, Digits.MoreDigit, Word, Word.MoreLower, Word.MoreUpper, Word.MoreNumber, named, number, fits}
-use Rattle.term_reader.specs.Machine.{State, State.InWord, State.InNumber, Stack, guard, step, said}
-use Rattle.term_reader.specs.Steps.{Kind.Bad, Kind.Range, Outcome.Stops, limit_at, run, onward, halted, ended}
-use Rattle.term_reader.specs.Readings.{SignAt, begins, BlanksRead, WordRead, DigitsRead, most_of}
+use Rattle.term_reader.specs.Grammar.{Blanks, Blanks.MoreSpace, Blanks.MoreTab, Digits.MoreDigit, Word, Word.MoreLower, Word.MoreUpper, Word.MoreNumber, named, number, fits}
+use Rattle.term_reader.specs.Machine.{State, State.InWord, State.InNumber, Stack, guard, step}
+use Rattle.term_reader.specs.Steps.{Outcome.Stops, limit_at, run, onward, halted}
+use Rattle.term_reader.specs.Readings.{SignAt, BlanksRead, WordRead, DigitsRead, most_of}
 use Rattle.term_reader.proofs.Bytes.{Tells, sign_tells}
 use Rattle.term_reader.proofs.Utf8.{small_then}
 

@@ -1,5 +1,5 @@
 -- The machine reads exactly the trees of the grammar, and each state that it comes to can be completed.
-use Rattle.std.proofs.Common.{◌≡◌, ◌≢◌, ℕ, ◌+◌, ◌*◌, Bool, true, false, ◌&&◌, cond, List, [], ◌∷◌, Option, Some, None, MatchOption, option_and_then, refl, sym, ap, ◌∙◌, arith, subst, zero, suc}
+use Rattle.std.proofs.Common.{◌≡◌, ◌≢◌, ℕ, ◌+◌, ◌*◌, Bool, true, false, cond, List, [], ◌∷◌, Option, Some, None, MatchOption, option_and_then, refl, sym, ap, ◌∙◌, arith, subst, zero, suc}
 use Rattle.event_model.specs.declared.terms.TheConstants.{MOST_ARGUMENTS, MOST_DEPTH}
 use Rattle.term_reader.specs.declared.signs.Sign.{Sign}
 use Rattle.term_reader.specs.declared.signs.Sign.TheVariants.{Space, Tab, Digit, Lower, Upper, Open, Close, Comma, Quote, Backslash, Minus, Control, High}

@@ -6,10 +6,9 @@ use Rattle.term_reader.specs.declared.faults.TermFault.{TermFault}
 use Rattle.term_reader.specs.declared.faults.TermFault.TheVariants.{Syntax, TooDeep, TooWide, NumberRange, Memory}
 use Rattle.term_reader.specs.declared.signs.Sign.{Sign}
 use Rattle.term_reader.specs.declared.signs.Sign.TheVariants.{Space, Tab, Lower}
-use Rattle.term_reader.specs.Signs.{sign_of}
 use Rattle.term_reader.specs.Grammar.{Wanted, Wanted.AnyTerm, Wanted.AnAtom, Blanks.NoBlank, Tree, Tree.Name, Tree.Comp, between, Stands, PastLimit, FaultAt, TermRead, AtomRead, Viable, NoneGoesOn}
-use Rattle.term_reader.specs.Machine.{Stack.Top, State.Begin, State.Want, State.InWord, State.Behind, step, start}
-use Rattle.term_reader.specs.Steps.{Kind, Kind.Bad, Kind.Deep, Kind.Wide, Kind.Range, Outcome, Outcome.Reads, Outcome.Stops, run, onward, halted}
+use Rattle.term_reader.specs.Machine.{Stack.Top, State.Begin, State.Want, State.Behind, step, start}
+use Rattle.term_reader.specs.Steps.{Kind, Kind.Bad, Kind.Deep, Kind.Wide, Kind.Range, Outcome, Outcome.Reads, Outcome.Stops, run}
 use Rattle.term_reader.specs.Readings.{begins, is_blank, is_lower, is_open, Fails, NameRead, ArgsRead, TreeAt, WholeRead, TermGiven, AtomGiven}
 use Rattle.term_reader.proofs.Places.{rest_of, Meant, Past, kind_is, means}
 use Rattle.term_reader.proofs.Names.{between_is}

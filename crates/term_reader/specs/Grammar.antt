@@ -1,5 +1,5 @@
 -- Terms as they are written: trees of the grammar, the signs and the value of a tree, and which trees are within the limits.
-use Rattle.std.specs.Prelude.{◌≡◌, ◌≢◌, length, ℕ, ◌+◌, ◌*◌, ◌^◌, ◌-◌, ◌≤◌, Bool, true, false, List, [], ◌∷◌, ◌++◌, nat_le, nat_lt, zero, suc, ℤ, pos, negsuc, take, drop, ◌==◌, ◌&&◌, Result, Ok, Err}
+use Rattle.std.specs.Prelude.{◌≡◌, ◌≢◌, length, ℕ, ◌+◌, ◌*◌, ◌-◌, ◌≤◌, Bool, true, false, List, [], ◌∷◌, ◌++◌, nat_le, nat_lt, zero, suc, ℤ, pos, negsuc, take, drop, ◌==◌, ◌&&◌, Result, Ok, Err}
 use Rattle.event_model.specs.Bytes.{open_round, comma, digit_0, digit_9}
 use Rattle.event_model.specs.declared.terms.TheConstants.{MOST_ARGUMENTS, MOST_DEPTH}
 use Rattle.term_reader.specs.declared.numbers.TheConstants.{NUMBER_LIMIT}
