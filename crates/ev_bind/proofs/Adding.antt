@@ -1,18 +1,19 @@
 -- One more pair in a binding.
-use Rattle.std.proofs.Common.{ℕ, inl, inr, ◌+◌, ◌<◌, ◌≤◌, ◌≡◌, refl, ap, sym, ◌∙◌, arith, add_comm, add-one, Bool, true, false, cond, not, ◌&&◌, ◌||◌, Option, Some, None, List, [], ◌∷◌, ◌++◌}
-use Rattle.std.specs.Prelude.{◌==◌, nat_lt, option_map, insert}
-use Rattle.std.specs.List.{list_all, prefix_len}
+use Rattle.std.proofs.Common.{ℕ, inl, inr, ◌<◌, ◌≤◌, ◌≡◌, refl, ap, sym, ◌∙◌, arith, Bool, true, false, cond, not, ◌&&◌, ◌||◌, Option, Some, None, List, [], ◌∷◌, ◌++◌}
+use Rattle.std.specs.Prelude.{◌==◌, nat_lt, option_map}
+use Rattle.std.specs.List.{list_all}
 use Rattle.std.specs.Ordering.{is_eq, nat_cmp, ordering_then, MatchOrdering}
 use Rattle.std.specs.Cmp.{tied_itself, ranks}
 use Rattle.std.specs.declared.cmp.Ordering.{Ordering}
 use Rattle.std.specs.declared.cmp.Ordering.TheVariants.{Less, Equal, Greater}
-use Rattle.std.proofs.lemmas.Bool.{true≢false, and_parts, and_from, or_cases, or_left, or_right, eq-eqb, eqb-false, ne_eqb, lt-ltb, le-ltb, ltb-true, not-true, not_from_false}
+use Rattle.std.proofs.lemmas.Bool.{true≢false, and_parts, and_from, or_cases, or_left, or_right, eq-eqb, eqb-false, ne_eqb, lt-ltb, ltb-true, not-true, not_from_false}
 use Rattle.std.proofs.lemmas.List.Folds.{list_all-append}
 use Rattle.ordered_lists.specs.Canon.{place, placed, has, AllAbove, Rising, canon_itself}
 use Rattle.ordered_lists.specs.Members.{canon-snoc}
 use Rattle.event_model.specs.TermOrder.{term_cmp, exact_terms}
 use Rattle.event_model.specs.declared.terms.Term.{Term}
-use Rattle.ev_bind.specs.Bindings.{Pair, Pairs, pair_cmp, alike, single, join, IsBinding, value_at, exact_pairs, single_within}
+use Rattle.ev_bind.specs.Bindings.{Pair, Pairs, pair_cmp, alike, single, join, IsBinding, value_at, exact_pairs, single_within, same_Bool}
+use Rattle.ev_bind.specs.Projections.{tie}
 
 -- the pairs with one more at its place; none where its slot has another value
 abbrev pub added_at : Ordering → Pair → Pair → Pairs → Option Pairs → Option Pairs
@@ -39,16 +40,6 @@ module _ {K : Type 0} where
   all_both p q r h (x ∷ xs) a b = and_from (r x) (list_all r xs)
       (h x (and_parts (p x) (list_all p xs) a).0 (and_parts (q x) (list_all q xs) b).0)
       (all_both p q r h xs (and_parts (p x) (list_all p xs) a).1 (and_parts (q x) (list_all q xs) b).1)
-
-pub tie : (o : Ordering) → is_eq o ≡ true → o ≡ Equal
-tie Less e = absurd (true≢false (sym e))
-tie Equal e = refl
-tie Greater e = absurd (true≢false (sym e))
-
-pub same_Bool : (a b : Bool) → (a ≡ true → b ≡ true) → (b ≡ true → a ≡ true) → a ≡ b
-same_Bool true b f g = sym (f refl)
-same_Bool false true f g = g refl
-same_Bool false false f g = refl
 
 -- ---- the slots of a binding rise
 
@@ -190,27 +181,3 @@ found (p ∷ b) q v c h = at (nat_cmp q.0 p.0) (ranks q.0 p.0) (found b q v part
 -- a slot that has a value takes no other
 pub join_found : (b : Pairs) (slot : ℕ) (t v : Term) → IsBinding b → value_at b slot ≡ Some v → join b ((slot, t) ∷ []) ≡ cond (is_eq (term_cmp v t)) (Some b) None
 join_found b slot t v h e = join_one b (slot, t) h ∙ found b (slot, t) v (climbs_of b h.rising h.one_value) e
-
-insert_behind : (p : Pair) (b : Pairs) (k : ℕ) (q : Pair) → insert (p ∷ b) (1 + k) q ≡ p ∷ insert b k q
-insert_behind p b k q = rw (add_comm 1 k, add-one) refl
-
-missing : (b : Pairs) (q : Pair) → value_at b q.0 ≡ None → added b q ≡ Some (insert b (prefix_len (λ p. nat_lt p.0 q.0) b) q)
-missing [] q h = refl
-missing (p ∷ b) q h = at (nat_cmp q.0 p.0) (ranks q.0 p.0) (missing b q)
-  where
-    k : ℕ
-    k = prefix_len (λ p. nat_lt p.0 q.0) b
-
-    some_none : Some p.1 ≡ None → ⊥
-    some_none e = cc
-
-    at : (c : Ordering) → MatchOrdering c (q.0 < p.0) (q.0 ≡ p.0) (p.0 < q.0) → (value_at b q.0 ≡ None → added b q ≡ Some (insert b k q))
-        → added_at c q p b (added b q) ≡ Some (insert (p ∷ b) (cond (nat_lt p.0 q.0) (1 + k) 0) q)
-    at Less m more = ap (λ t. Some (insert (p ∷ b) (cond t (1 + k) 0) q)) (sym (le-ltb p.0 q.0 (omega (arith, m))))
-    at Equal m more = absurd (some_none (sym (ap (λ t. cond t (Some p.1) (value_at b q.0)) (eq-eqb p.0 q.0 (sym m))) ∙ h))
-    at Greater m more = ap (option_map (λ d. p ∷ d)) (more (sym (ap (λ t. cond t (Some p.1) (value_at b q.0)) (ne_eqb p.0 q.0 (λ e. absurd (omega (arith, m, e))))) ∙ h))
-        ∙ ap Some (sym (insert_behind p b k q)) ∙ ap (λ t. Some (insert (p ∷ b) (cond t (1 + k) 0) q)) (sym (lt-ltb p.0 q.0 m))
-
--- a slot without a value takes one
-pub join_missing : (b : Pairs) (slot : ℕ) (t : Term) → IsBinding b → value_at b slot ≡ None → join b ((slot, t) ∷ []) ≡ Some (insert b (prefix_len (λ p. nat_lt p.0 slot) b) (slot, t))
-join_missing b slot t h e = join_one b (slot, t) h ∙ missing b (slot, t) e

@@ -29,7 +29,9 @@ use Rattle.event_model.proofs.Layers.{Each, args_of, by_layers}
 use Rattle.ev_bind.specs.Bindings.{Pair, Pairs, pair_cmp, alike, single, union_of, IsBinding, value_at, exact_pairs, all_has, has_all, union_same, union_of-itself, IsBinding-canon}
 use Rattle.ev_bind.specs.Matching.{with_pairs, pairs_of_all, number_pairs, symbol_pairs, text_pairs, compound_pairs, pairs_step, pairs_of, pairs_at, match_of}
 use Rattle.ev_bind.specs.Fits.{same, is_value, all_fit, is_compound, fits_step, fits, fits_at, occurs_step, occurs, occurs_at, Matches}
-use Rattle.ev_bind.proofs.Adding.{tie, same_Bool, climbs, climbs_of}
+use Rattle.ev_bind.proofs.Adding.{climbs, climbs_of}
+use Rattle.ev_bind.specs.Projections.{tie}
+use Rattle.ev_bind.specs.Bindings.{same_Bool}
 
 -- ---- values and pairs
 

@@ -1,6 +1,5 @@
 pub mod Adding
-pub mod Comparing
 pub mod Merging
+pub mod Chaining
 pub mod Fitting
 pub mod Uniting
-pub mod Projecting

@@ -1,13 +1,12 @@
 -- Unions of several pairs.
-use Rattle.std.proofs.Common.{ℕ, ◌≡◌, refl, ap, sym, ◌∙◌, subst, append_assoc, append-nil, Bool, true, false, cond, ◌||◌, Option, Some, None, List, [], ◌∷◌, ◌++◌, ◌+◌, ◌<◌, ◌≤◌, length, map, drop, get_or, arith}
+use Rattle.std.proofs.Common.{ℕ, ◌≡◌, refl, ap, sym, ◌∙◌, subst, append_assoc, append-nil, Bool, true, false, cond, ◌||◌, Option, Some, None, List, [], ◌∷◌, ◌++◌, ◌+◌, ◌<◌, length, map, take, drop, get_or, arith}
 use Rattle.std.specs.Prelude.{option_and_then}
-use Rattle.std.specs.List.{list_all}
-use Rattle.std.proofs.lemmas.List.{drop_more, drop_all}
-use Rattle.std.proofs.lemmas.Bool.{true≢false}
+use Rattle.std.proofs.lemmas.List.{take_more, drop_more, length-take, length-drop}
 use Rattle.ordered_lists.specs.Canon.{canon, has, has-append}
 use Rattle.event_model.specs.declared.terms.Term.{Term}
-use Rattle.ev_bind.specs.Bindings.{Pair, Pairs, pair_cmp, single, union_of, join, IsBinding, exact_pairs, union_same, union_of-itself, join_twice, join_comm, IsBinding-canon, all_has}
-use Rattle.ev_bind.specs.Matching.{with_pairs, pairs_of, pairs_of_all}
+use Rattle.ev_bind.specs.Bindings.{Pair, Pairs, pair_cmp, single, union_of, join, IsBinding, exact_pairs, union_same, union_of-itself, join_twice, IsBinding-canon}
+use Rattle.ev_bind.specs.Matching.{with_pairs, pairs_of, pairs_of_all, pairs_of-Var, values, match_of_args}
+use Rattle.event_model.specs.declared.terms.Pat.TheVariants as pat
 use Rattle.event_model.specs.declared.terms.Pat.{Pat}
 
 -- a union is a binding
@@ -21,49 +20,29 @@ is_union xs d e = at (single xs) refl e
 pub join_nothing : (b : Pairs) → IsBinding b → join b [] ≡ Some b
 join_nothing b h = ap union_of (append-nil b) ∙ union_of-itself b h
 
--- one pair, and then the others
-pub join_first : (b : Pairs) (q : Pair) (more : Pairs) → join b (q ∷ more) ≡ option_and_then (λ d. join d more) (join b (q ∷ []))
-join_first b q more = ap union_of (sym (append_assoc b (q ∷ []) more)) ∙ sym (join_twice b (q ∷ []) more)
-
--- pairs that a binding has add nothing
-pub join_within : (b more : Pairs) → IsBinding b → list_all (λ q. has pair_cmp q b) more ≡ true → join b more ≡ Some b
-join_within b more h w = union_same (b ++ more) b (λ q. has-append exact_pairs q b more ∙ at (has pair_cmp q b) (has pair_cmp q more) (all_has exact_pairs (λ q. has pair_cmp q b) more w q)) ∙ union_of-itself b h
-  where
-    at : (s t : Bool) → (t ≡ true → s ≡ true) → (s || t) ≡ s
-    at true t f = refl
-    at false true f = absurd (true≢false (sym (f refl)))
-    at false false f = refl
-
-pub join_around : (b more : Pairs) → IsBinding more → list_all (λ q. has pair_cmp q more) b ≡ true → join b more ≡ Some more
-join_around b more h w = join_comm b more ∙ join_within more b h w
-
--- the pairs of one argument, and then those of the others
-pub join_with : (b : Pairs) (x y : Option Pairs) → option_and_then (join b) (with_pairs x y) ≡ option_and_then (λ d. option_and_then (join d) y) (option_and_then (join b) x)
-join_with b None y = refl
-join_with b (Some xs) None = sym (none (join b xs))
+-- the pairs of the other arguments, and then those of one
+join_with : (b : Pairs) (x y : Option Pairs) → option_and_then (join b) (with_pairs x y) ≡ option_and_then (λ d. option_and_then (join d) x) (option_and_then (join b) y)
+join_with b None y = sym (none (option_and_then (join b) y))
   where
     none : (o : Option Pairs) → option_and_then {T = Pairs} {U = Pairs} (λ d. None) o ≡ None
     none None = refl
     none (Some d) = refl
-join_with b (Some xs) (Some ys) = ap union_of (sym (append_assoc b xs ys)) ∙ sym (join_twice b xs ys)
+join_with b (Some xs) None = refl
+join_with b (Some xs) (Some ys) = union_same (b ++ (xs ++ ys)) ((b ++ ys) ++ xs) same ∙ sym (join_twice b ys xs)
+  where
+    or_turn : (s t u : Bool) → (s || (t || u)) ≡ ((s || u) || t)
+    or_turn true t u = refl
+    or_turn false true true = refl
+    or_turn false true false = refl
+    or_turn false false true = refl
+    or_turn false false false = refl
 
--- ---- pair by pair
+    same : (q : Pair) → has pair_cmp q (b ++ (xs ++ ys)) ≡ has pair_cmp q ((b ++ ys) ++ xs)
+    same q = has-append exact_pairs q b (xs ++ ys) ∙ ap (λ t. has pair_cmp q b || t) (has-append exact_pairs q xs ys)
+        ∙ or_turn (has pair_cmp q b) (has pair_cmp q xs) (has pair_cmp q ys)
+        ∙ ap (λ t. t || has pair_cmp q xs) (sym (has-append exact_pairs q b ys)) ∙ sym (has-append exact_pairs q (b ++ ys) xs)
 
-from_place : {X : Type 0} (xs : List X) (i : ℕ) (x : X) → i < length xs → x ≡ get_or xs i x → drop i xs ≡ x ∷ drop (i + 1) xs
-from_place xs i x lt is = drop_more xs i x lt ∙ ap (λ y. y ∷ drop (i + 1) xs) (sym is)
-
--- the pairs that are left, where one is refused
-pub more_refused : (b more : Pairs) (i : ℕ) (q : Pair) → i < length more → q ≡ get_or more i q → join b (q ∷ []) ≡ None → join b (drop i more) ≡ None
-more_refused b more i q lt is refused = ap (join b) (from_place more i q lt is) ∙ join_first b q (drop (i + 1) more) ∙ ap (option_and_then (λ d. join d (drop (i + 1) more))) refused
-
--- the pairs that are left, where one was taken
-pub more_taken : (b d more : Pairs) (i : ℕ) (q : Pair) → i < length more → q ≡ get_or more i q → join b (q ∷ []) ≡ Some d → join b (drop i more) ≡ join d (drop (i + 1) more)
-more_taken b d more i q lt is taken = ap (join b) (from_place more i q lt is) ∙ join_first b q (drop (i + 1) more) ∙ ap (option_and_then (λ d. join d (drop (i + 1) more))) taken
-
-pub more_ended : (b more : Pairs) (i : ℕ) → length more ≤ i → IsBinding b → join b (drop i more) ≡ Some b
-more_ended b more i le h = ap (join b) (drop_all i more le) ∙ join_nothing b h
-
--- ---- argument by argument
+-- ---- argument by argument, from the last
 
 pub args_differ : (ps : List Pat) (ts : List Term) → (length ps ≡ length ts → ⊥) → pairs_of_all (map pairs_of ps) ts ≡ None
 args_differ [] [] n = absurd (n refl)
@@ -78,17 +57,73 @@ args_differ (p ∷ ps) (t ∷ ts) n = ap (with_pairs (pairs_of p t)) (args_diffe
 abbrev pub joined_args : Pairs → List Pat → List Term → Option Pairs
 joined_args b ps ts = option_and_then (join b) (pairs_of_all (map pairs_of ps) ts)
 
-args_at : (b : Pairs) (ps : List Pat) (ts : List Term) (i : ℕ) (p : Pat) (t : Term) → i < length ps → i < length ts → p ≡ get_or ps i p → t ≡ get_or ts i t
-    → joined_args b (drop i ps) (drop i ts) ≡ option_and_then (λ d. joined_args d (drop (i + 1) ps) (drop (i + 1) ts)) (option_and_then (join b) (pairs_of p t))
-args_at b ps ts i p t lp lt ip it = (λ k. joined_args b (from_place ps i p lp ip k) (from_place ts i t lt it k)) ∙ join_with b (pairs_of p t) (pairs_of_all (map pairs_of (drop (i + 1) ps)) (drop (i + 1) ts))
+-- the first arguments, and then one more
+with_last : (ps : List Pat) (ts : List Term) (p : Pat) (t : Term) → length ps ≡ length ts → pairs_of_all (map pairs_of (ps ++ p ∷ [])) (ts ++ t ∷ []) ≡ with_pairs (pairs_of_all (map pairs_of ps) ts) (pairs_of p t)
+with_last [] [] p t e = alone (pairs_of p t)
+  where
+    alone : (o : Option Pairs) → with_pairs o (Some []) ≡ with_pairs (Some []) o
+    alone None = refl
+    alone (Some xs) = ap Some (append-nil xs)
+with_last [] (u ∷ ts) p t e = absurd (omega (arith, e))
+with_last (q ∷ ps) [] p t e = absurd (omega (arith, e))
+with_last (q ∷ ps) (u ∷ ts) p t e = ap (with_pairs (pairs_of q u)) (with_last ps ts p t (omega (arith, e))) ∙ regroup (pairs_of q u) (pairs_of_all (map pairs_of ps) ts) (pairs_of p t)
+  where
+    regroup : (x y z : Option Pairs) → with_pairs x (with_pairs y z) ≡ with_pairs (with_pairs x y) z
+    regroup None y z = refl
+    regroup (Some xs) None z = refl
+    regroup (Some xs) (Some ys) None = refl
+    regroup (Some xs) (Some ys) (Some zs) = ap Some (sym (append_assoc xs ys zs))
 
-pub args_refused : (b : Pairs) (ps : List Pat) (ts : List Term) (i : ℕ) (p : Pat) (t : Term) → i < length ps → i < length ts → p ≡ get_or ps i p → t ≡ get_or ts i t
-    → option_and_then (join b) (pairs_of p t) ≡ None → joined_args b (drop i ps) (drop i ts) ≡ None
-args_refused b ps ts i p t lp lt ip it refused = args_at b ps ts i p t lp lt ip it ∙ ap (option_and_then (λ d. joined_args d (drop (i + 1) ps) (drop (i + 1) ts))) refused
+taken_one : {X : Type 0} (xs : List X) (i : ℕ) (x : X) → i < length xs → x ≡ get_or xs i x → take (i + 1) xs ≡ take i xs ++ x ∷ []
+taken_one xs i x lt is = take_more xs i x lt ∙ ap (λ y. take i xs ++ y ∷ []) (sym is)
 
-pub args_taken : (b d : Pairs) (ps : List Pat) (ts : List Term) (i : ℕ) (p : Pat) (t : Term) → i < length ps → i < length ts → p ≡ get_or ps i p → t ≡ get_or ts i t
-    → option_and_then (join b) (pairs_of p t) ≡ Some d → joined_args b (drop i ps) (drop i ts) ≡ joined_args d (drop (i + 1) ps) (drop (i + 1) ts)
-args_taken b d ps ts i p t lp lt ip it taken = args_at b ps ts i p t lp lt ip it ∙ ap (option_and_then (λ d. joined_args d (drop (i + 1) ps) (drop (i + 1) ts))) taken
+-- the first n of them, of which one is the last
+module _ (b : Pairs) (ps : List Pat) (ts : List Term) (n i : ℕ) (p : Pat) (t : Term) (ni : n ≡ i + 1) (lp : i < length ps) (lt : i < length ts) (ip : p ≡ get_or ps i p) (it : t ≡ get_or ts i t) where
+  args_at : joined_args b (take n ps) (take n ts) ≡ option_and_then (λ d. joined_args d (take i ps) (take i ts)) (option_and_then (join b) (pairs_of p t))
+  args_at = ap (λ n. joined_args b (take n ps) (take n ts)) ni
+      ∙ (λ k. joined_args b (taken_one ps i p lp ip k) (taken_one ts i t lt it k))
+      ∙ ap (option_and_then (join b)) (with_last (take i ps) (take i ts) p t (simp length-take (omega (arith, lp, lt))))
+      ∙ join_with b (pairs_of_all (map pairs_of (take i ps)) (take i ts)) (pairs_of p t)
 
-pub args_ended : (b : Pairs) (ps : List Pat) (ts : List Term) (i : ℕ) → length ps ≤ i → length ts ≤ i → IsBinding b → joined_args b (drop i ps) (drop i ts) ≡ Some b
-args_ended b ps ts i lp lt h = (λ k. joined_args b (drop_all i ps lp k) (drop_all i ts lt k)) ∙ join_nothing b h
+  pub args_refused : option_and_then (join b) (pairs_of p t) ≡ None → joined_args b (take n ps) (take n ts) ≡ None
+  args_refused refused = args_at ∙ ap (option_and_then (λ d. joined_args d (take i ps) (take i ts))) refused
+
+  pub args_taken : (d : Pairs) → option_and_then (join b) (pairs_of p t) ≡ Some d → joined_args b (take n ps) (take n ts) ≡ joined_args d (take i ps) (take i ts)
+  args_taken d taken = args_at ∙ ap (option_and_then (λ d. joined_args d (take i ps) (take i ts))) taken
+
+-- ---- the arguments that are the variables of the slots
+
+pub variables_more : (pats : List Pat) (at slot : ℕ) (t : Term) (s : ℕ) (p : Pat) (rest w : Pairs) → at < length pats → p ≡ get_or pats at p → p ≡ pat.Var s → s ≡ slot → w ≡ (slot, t) ∷ rest
+    → pairs_of_all (map pairs_of (drop (at + 1) pats)) (values rest) ≡ Some rest → pairs_of_all (map pairs_of (drop at pats)) (values w) ≡ Some w
+variables_more pats at slot t s p rest w lt is var same e more =
+    (λ i. pairs_of_all (map pairs_of ((drop_more pats at p lt ∙ ap (λ p. p ∷ drop (at + 1) pats) (sym is ∙ var ∙ ap pat.Var same)) i)) (values (e i)))
+    ∙ (λ i. with_pairs (pairs_of-Var slot t i) (more i)) ∙ ap Some (sym e)
+
+-- ---- the arguments against the values of a binding, from the last
+
+no_arguments : (ps : List Pat) (w : Pairs) → 0 < length ps → w ≡ [] → match_of_args ps (values w) ≡ None
+no_arguments [] w lt e = absurd (omega (arith, lt))
+no_arguments (p ∷ ps) w lt e = ap (λ w. match_of_args (p ∷ ps) (values w)) e
+
+pub none_left : (pats : List Pat) (at : ℕ) (w : Pairs) → at < length pats → w ≡ [] → match_of_args (drop at pats) (values w) ≡ None
+none_left pats at w lt e = no_arguments (drop at pats) w (simp length-drop (omega (arith, lt))) e
+
+module _ (pats : List Pat) (at : ℕ) (p : Pat) (q : Pair) (rest w : Pairs) (lt : at < length pats) (is : p ≡ get_or pats at p) (e : w ≡ q ∷ rest) where
+  pub one_more : match_of_args (drop at pats) (values w) ≡ option_and_then (λ d. option_and_then (join d) (pairs_of p q.1)) (match_of_args (drop (at + 1) pats) (values rest))
+  one_more = (λ i. match_of_args ((drop_more pats at p lt ∙ ap (λ p. p ∷ drop (at + 1) pats) (sym is)) i) (values (e i)))
+      ∙ from_empty (with_pairs (pairs_of p q.1) more)
+      ∙ join_with [] (pairs_of p q.1) more
+      ∙ ap (option_and_then (λ d. option_and_then (join d) (pairs_of p q.1))) (sym (from_empty more))
+    where
+      more : Option Pairs
+      more = pairs_of_all (map pairs_of (drop (at + 1) pats)) (values rest)
+
+      from_empty : (o : Option Pairs) → option_and_then union_of o ≡ option_and_then (join []) o
+      from_empty None = refl
+      from_empty (Some xs) = refl
+
+  pub more_none : None ≡ match_of_args (drop (at + 1) pats) (values rest) → None ≡ match_of_args (drop at pats) (values w)
+  more_none n = sym (one_more ∙ ap (option_and_then (λ d. option_and_then (join d) (pairs_of p q.1))) (sym n))
+
+  pub more_some : (d : Pairs) → Some d ≡ match_of_args (drop (at + 1) pats) (values rest) → option_and_then (join d) (pairs_of p q.1) ≡ match_of_args (drop at pats) (values w)
+  more_some d s = sym (one_more ∙ ap (option_and_then (λ d. option_and_then (join d) (pairs_of p q.1))) (sym s))

@@ -9,7 +9,8 @@ use Rattle.event_model.specs.TermOrder.{term_cmp, exact_terms}
 use Rattle.event_model.specs.declared.terms.Term.{Term}
 use Rattle.ev_bind.specs.Bindings.{Pair, Pairs, pair_cmp, alike, single, join, IsBinding, value_at, exact_pairs, has_all, IsBinding-canon}
 use Rattle.ev_bind.specs.Fits.{is_value}
-use Rattle.ev_bind.proofs.Adding.{tie, climbs_of}
+use Rattle.ev_bind.proofs.Adding.{climbs_of}
+use Rattle.ev_bind.specs.Projections.{tie}
 use Rattle.ev_bind.proofs.Fitting.{has_value, itself, one_pair, none_some}
 
 -- a value is a pair

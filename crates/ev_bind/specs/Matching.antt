@@ -1,5 +1,5 @@
 -- When an atom of a rule matches a ground atom, and what an argument of a rule is under a binding.
-use Rattle.std.specs.Prelude.{ℕ, ℤ, pos, ◌≡◌, if◌then◌else◌, ◌++◌, Option, Some, None, option_and_then, unwrap_or, List, [], ◌∷◌, map}
+use Rattle.std.specs.Prelude.{ℕ, suc, ℤ, pos, ◌≡◌, if◌then◌else◌, ◌++◌, Option, Some, None, option_and_then, unwrap_or, List, [], ◌∷◌, map}
 use Rattle.std.specs.Ordering.{int_eq}
 use Rattle.std.specs.Str.{bytes_eq}
 use Rattle.std.proofs.Common.{refl, ap, ◌∙◌}
@@ -85,7 +85,8 @@ pairs_of-Sym name t = ap (λ f. f t) (pairs_at (pat.Sym name) (pat.outs-Sym name
 pub pairs_of-Text : (text : List ℕ) (t : Term) → pairs_of (pat.Text text) t ≡ text_pairs text (out-Term t)
 pairs_of-Text text t = ap (λ f. f t) (pairs_at (pat.Text text) (pat.outs-Text text))
 
-pub pairs_of-Comp : (name : List ℕ) (ps : List Pat) (t : Term) → pairs_of (pat.Comp name ps) t ≡ compound_pairs name (map pairs_of ps) (out-Term t)
+pub pairs_of-Comp : (name : List ℕ) (ps : List Pat) (t : Term)
+    → pairs_of (pat.Comp name ps) t ≡ compound_pairs name (map pairs_of ps) (out-Term t)
 pairs_of-Comp name ps t = ap (λ f. f t) (pairs_at (pat.Comp name ps) (pat.outs-Comp name ps))
 
 pub ruleset pairings = (pairs_of-Var, pairs_of-Any, pairs_of-Num, pairs_of-Sym, pairs_of-Text, pairs_of-Comp)
@@ -96,6 +97,15 @@ match_of_args ps ts = option_and_then union_of (pairs_of_all (map pairs_of ps) t
 
 abbrev pub match_of : PatAtom → Atom → Option Pairs
 match_of p a = if bytes_eq p.name a.name then match_of_args p.args a.args else None
+
+-- the values of a binding, in the order of slots
+abbrev pub values : Pairs → List Term
+values b = map (λ p. p.1) b
+
+-- the terms as the values of the slots from this one on
+abbrev pub numbered : ℕ → List Term → Pairs
+numbered slot [] = []
+numbered slot (t ∷ ts) = (slot, t) ∷ numbered (suc slot) ts
 
 -- ---- an argument under a binding; a variable that it doesn't bind, and `_`, are 0, and no sound rule has one in its head
 
@@ -133,8 +143,10 @@ map-map : {A B C : Type 0} (f : B → C) (g : A → B) (xs : List A) → map f (
 map-map f g [] = refl
 map-map f g (x ∷ xs) = ap (λ l. f (g x) ∷ l) (map-map f g xs)
 
-pub instance-Comp : (name : List ℕ) (args : List Pat) (b : Pairs) → instance (pat.Comp name args) b ≡ made.Comp name (map (λ arg. instance arg b) args)
-instance-Comp name args b = ap (λ f. f b) (instance_at (pat.Comp name args) (pat.outs-Comp name args)) ∙ ap (made.Comp name) (map-map (λ arg. arg b) instance args)
+pub instance-Comp : (name : List ℕ) (args : List Pat) (b : Pairs)
+    → instance (pat.Comp name args) b ≡ made.Comp name (map (λ arg. instance arg b) args)
+instance-Comp name args b =
+    ap (λ f. f b) (instance_at (pat.Comp name args) (pat.outs-Comp name args)) ∙ ap (made.Comp name) (map-map (λ arg. arg b) instance args)
 
 pub ruleset instances = (instance-Var, instance-Any, instance-Num, instance-Sym, instance-Text, instance-Comp)
 

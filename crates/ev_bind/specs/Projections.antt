@@ -27,16 +27,21 @@ same_pairs a b = is_eq (slice_cmp pair_cmp a b)
 pub is_binding_project : (slots : ℕ) (b : Pairs) → IsBinding b → IsBinding (project slots b)
 is_binding_project slots b h = record {
   rising = Rising-filter exact_pairs (λ p. slot_in slots p.0) b h.rising;
-  one_value = single_within b (project slots b) (λ q e. (and_parts (slot_in slots q.0) (has pair_cmp q b) (sym (has-filter exact_pairs (λ p. slot_in slots p.0) q b) ∙ e)).1) h.one_value;
+  one_value = single_within b (project slots b) (λ q e.
+      (and_parts (slot_in slots q.0) (has pair_cmp q b) (sym (has-filter exact_pairs (λ p. slot_in slots p.0) q b) ∙ e)).1) h.one_value;
 }
 
-tie : (o : Ordering) → is_eq o ≡ true → o ≡ Equal
+-- what doesn't tell two apart
+pub tie : (o : Ordering) → is_eq o ≡ true → o ≡ Equal
 tie Less e = absurd (true≢false (sym e))
 tie Equal e = refl
 tie Greater e = absurd (true≢false (sym e))
 
 pub same_pairs_decides : (a b : Pairs) → Decides (same_pairs a b) (a ≡ b)
-same_pairs_decides a b = (λ e. exact.same a b (tie (slice_cmp pair_cmp a b) e), λ e. ap is_eq (ap (slice_cmp pair_cmp a) (sym e) ∙ tied_itself exact.total a))
+same_pairs_decides a b = (
+  λ e. exact.same a b (tie (slice_cmp pair_cmp a b) e),
+  λ e. ap is_eq (ap (slice_cmp pair_cmp a) (sym e) ∙ tied_itself exact.total a),
+)
   where
     exact : Exact (slice_cmp pair_cmp)
     exact = exact_lists exact_pairs

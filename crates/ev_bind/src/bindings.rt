@@ -1,36 +1,69 @@
 // The values of some variables.
-ghost use Rattle.std.specs.Prelude.{◌≡◌, ◌∷◌, [], IfOk};
+ghost use Rattle.std.specs.Prelude.{◌≡◌, ◌∷◌, [], IfOk, MatchOption};
 ghost use Rattle.std.specs.Bool.{Decides};
 ghost use Rattle.std.specs.Option.{option_copied};
 ghost use Rattle.ev_bind.specs.Bindings.{IsBinding, join, value_at};
+ghost use Rattle.ev_bind.specs.Hashing.{code_of};
 ghost use Rattle.ev_bind.specs.Projections.{project};
 
-use crate::pairs::{add_pair, add_pairs, copy_pairs, has_pairs, same_terms, value_of};
-use crate::projections::{all_in, copy_in, same_in};
-use event_model::{Shared, Slot, Slots, Term};
+use crate::hashing::pair_code;
+use crate::pairs::same_terms;
+use crate::projections::{code_on, cut, same_in};
+use crate::unions::{Union, unite, with_pair};
+use event_model::{Slot, Slots, Term};
 use std::alloc::{AllocError, Global};
 use std::marker::Model;
+use std::rc::Rc;
 
 /// The values of some variables, which contracts see as the list of pairs of slot and term with rising slots.
-/// Owners share the pairs.
+/// It is a chain of cells, and each cell can have several owners: bindings that end alike share their ends.
+#[cycle(chain)]
 #[derive(Drop)]
 pub struct Binding {
-    pairs: Option<Shared<(Slot, Term)>>,
+    first: Option<Rc<Cell>>,
+}
+
+// A pair, the pairs with higher slots, and the hash of all these.
+#[cycle(chain)]
+#[derive(Drop)]
+pub(crate) struct Cell {
+    hash: u64,
+    pub(crate) slot: Slot,
+    pub(crate) term: Term,
+    pub(crate) rest: Binding,
 }
 
 impl Model for Binding {
-    ghost use Rattle.std.specs.Prelude.{unwrap_or, []};
     ghost use Rattle.std.specs.Coded.{codes};
     ghost use Rattle.event_model.specs.contracts.terms.Term as term;
-    ghost use Rattle.ev_bind.specs.Bindings.{Pairs, IsBinding};
+    ghost use Rattle.ev_bind.specs.Bindings.{Pairs};
 
     ghost Value = { Pairs };
 
     ghost coded = { Prim.hlevel (codes, term.the_row.coded) };
 
-    ghost view = { λ b. unwrap_or b.pairs [] };
+    ghost use Rattle.std.specs.Prelude.{length};
+    ghost use Rattle.ev_bind.specs.Chains.{pairs_in, IsChain};
 
-    ghost invariant = { λ b. IsBinding (unwrap_or b.pairs []) };
+    ghost view = { λ b. pairs_in b.first };
+
+    ghost invariant = { λ b. IsChain b.first };
+
+    ghost size = { length };
+
+    ghost use Rattle.std.proofs.Common.{arith};
+
+    ghost size_decreases = { λ a h. Prim.grind arith };
+}
+
+impl Cell {
+    // The same pair in front of others.
+    pub(crate) fn with(&self, alloc: Global, rest: Binding) -> Result<Binding, AllocError>
+        requires { IsBinding ((self.now.slot, self.now.term) ∷ rest) }
+        ensures { IfOk result (λ b. b ≡ (self.now.slot, self.now.term) ∷ rest) }
+    {
+        Binding::in_front(alloc, self.slot, self.term.share()?, rest)
+    }
 }
 
 impl Binding {
@@ -38,41 +71,62 @@ impl Binding {
     pub fn empty() -> Binding
         ensures { result ≡ [] }
     {
-        Binding { pairs: None }
+        Binding { first: None }
     }
 
-    // Pairs that are a binding, with one owner.
-    pub(crate) fn of_pairs(alloc: Global, pairs: Vec<(Slot, Term)>) -> Result<Binding, AllocError>
-        requires { IsBinding pairs.items }
-        ensures { IfOk result (λ b. b ≡ pairs.items) }
+    // One pair more, whose slot is below all others.
+    pub(crate) fn in_front(
+        alloc: Global,
+        slot: Slot,
+        term: Term,
+        rest: Binding,
+    ) -> Result<Binding, AllocError>
+        requires { IsBinding ((slot, term) ∷ rest) }
+        ensures { IfOk result (λ b. b ≡ (slot, term) ∷ rest) }
     {
-        if pairs.is_empty() {
-            return Ok(Binding::empty());
-        }
+        let hash = pair_code(slot, &term, rest.hash());
+        let cell = Cell {
+            hash,
+            slot,
+            term,
+            rest,
+        };
         Ok(Binding {
-            pairs: Some(Shared::new(alloc, pairs)?),
+            first: Some(Rc::new(alloc, cell)?),
         })
+    }
+
+    // The first pair and those behind it.
+    pub(crate) fn first(&self) -> Option<&Cell>
+        ensures pairs { MatchOption result (self.now ≡ []) (λ c. self.now ≡ (c.now.slot, c.now.term) ∷ c.now.rest) }
+        ensures binding { IsBinding self.now }
+    {
+        match &self.first {
+            None => None,
+            Some(cell) => Some(cell),
+        }
     }
 
     /// One more owner of the same binding.
     pub fn share(&self) -> Result<Binding, AllocError>
         ensures { IfOk result (λ b. b ≡ self.now) }
     {
-        match &self.pairs {
-            None => Ok(Binding { pairs: None }),
-            Some(pairs) => Ok(Binding {
-                pairs: Some(pairs.share()?),
+        match &self.first {
+            None => Ok(Binding { first: None }),
+            Some(cell) => Ok(Binding {
+                first: Some(cell.clone()?),
             }),
         }
     }
 
-    pub fn pairs(&self) -> &[(Slot, Term)]
-        ensures pairs { result.now ≡ self.now }
+    /// The hash of the pairs, which was made with the binding.
+    pub fn hash(&self) -> u64
+        ensures code { result ≡ code_of self.now }
         ensures binding { IsBinding self.now }
     {
-        match &self.pairs {
-            None => &[],
-            Some(pairs) => pairs.as_slice(),
+        match &self.first {
+            None => 0,
+            Some(cell) => cell.hash,
         }
     }
 
@@ -80,7 +134,22 @@ impl Binding {
     pub fn get(&self, slot: Slot) -> Option<&Term>
         ensures { option_copied result ≡ value_at self.now slot }
     {
-        value_of(self.pairs(), slot)
+        self.value_of(slot)
+    }
+
+    fn value_of(&self, slot: Slot) -> Option<&Term>
+        ensures value { option_copied result ≡ value_at self.now slot }
+        ensures binding { IsBinding self.now }
+    {
+        match self.first() {
+            None => None,
+            Some(cell) => {
+                if cell.slot == slot {
+                    return Some(&cell.term);
+                }
+                cell.rest.value_of(slot)
+            }
+        }
     }
 
     /// The binding with one more pair, or `None` where the slot has another value.
@@ -92,51 +161,44 @@ impl Binding {
     ) -> Result<Option<Binding>, AllocError>
         ensures { IfOk result (λ o. o ≡ join self.now ((slot, term.now) ∷ [])) }
     {
-        let old = self.pairs();
-        if let Some(value) = value_of(old, slot) {
-            if same_terms(value, term) {
-                return Ok(Some(self.share()?));
+        match self.value_of(slot) {
+            Some(value) => {
+                if same_terms(value, term) {
+                    return Ok(Some(self.share()?));
+                }
+                Ok(None)
             }
-            return Ok(None);
+            None => Ok(Some(with_pair(alloc, self, slot, term)?)),
         }
-        let mut pairs = copy_pairs(alloc, old)?;
-        if add_pair(&mut pairs, slot, term)? {
-            return Ok(Some(Binding::of_pairs(alloc, pairs)?));
-        }
-        Ok(None)
     }
 
-    #[tactic(auto, using(crate::proofs::Merging::join_within, crate::proofs::Merging::join_around))]
     /// The pairs of both, or `None` where a slot has two values.
     pub fn merge(&self, alloc: Global, other: &Binding) -> Result<Option<Binding>, AllocError>
         ensures { IfOk result (λ o. o ≡ join self.now other.now) }
     {
-        let left = self.pairs();
-        let right = other.pairs();
-        if has_pairs(left, right) {
-            return Ok(Some(self.share()?));
+        match unite(alloc, self, other)? {
+            Union::Nothing => Ok(None),
+            Union::Left => Ok(Some(self.share()?)),
+            Union::Right => Ok(Some(other.share()?)),
+            Union::Made(union) => Ok(Some(union)),
         }
-        if has_pairs(right, left) {
-            return Ok(Some(other.share()?));
-        }
-        let mut pairs = copy_pairs(alloc, left)?;
-        if add_pairs(&mut pairs, right)? {
-            return Ok(Some(Binding::of_pairs(alloc, pairs)?));
-        }
-        Ok(None)
     }
 
-    #[tactic(auto, using(crate::specs::Projections::is_binding_project))]
     /// The pairs whose slot is in the set.
     pub fn project(&self, alloc: Global, slots: &Slots) -> Result<Binding, AllocError>
         ensures { IfOk result (λ b. b ≡ project slots.now self.now) }
     {
-        let pairs = self.pairs();
-        if all_in(pairs, slots) {
-            return self.share();
+        match cut(alloc, self, slots)? {
+            None => self.share(),
+            Some(kept) => Ok(kept),
         }
-        let kept = copy_in(alloc, pairs, slots)?;
-        Binding::of_pairs(alloc, kept)
+    }
+
+    /// The hash of the pairs whose slot is in the set, with no binding made.
+    pub fn hash_on(&self, slots: &Slots) -> u64
+        ensures { result ≡ code_of (project slots.now self.now) }
+    {
+        code_on(self, slots)
     }
 
     #[tactic(auto, using(crate::specs::Projections::same_pairs_decides))]
@@ -144,6 +206,6 @@ impl Binding {
     pub fn same_on(&self, other: &Binding, slots: &Slots) -> bool
         ensures { Decides result (project slots.now self.now ≡ project slots.now other.now) }
     {
-        same_in(self.pairs(), other.pairs(), slots)
+        same_in(self, other, slots)
     }
 }

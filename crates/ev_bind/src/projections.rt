@@ -1,74 +1,91 @@
-// Pairs cut to a set of slots.
-ghost use Rattle.std.specs.Prelude.{◌≡◌, ◌+◌, ◌≤◌, drop, length, IfOk};
-ghost use Rattle.std.specs.List.{list_all, position_or_len};
+// Bindings cut to a set of slots.
+ghost use Rattle.std.specs.Prelude.{◌≡◌, ◌<◌, ◌∷◌, [], length, unwrap_or, IfOk, MatchOption};
 ghost use Rattle.event_model.specs.SlotSets.{slot_in};
+ghost use Rattle.ev_bind.specs.Hashing.{code_of};
 ghost use Rattle.ev_bind.specs.Projections.{project, same_pairs};
 
+use crate::bindings::{Binding, Cell};
+use crate::hashing::pair_code;
 use crate::pairs::cmp_pair;
-use event_model::{Slot, Slots, Term};
+use event_model::Slots;
 use std::alloc::{AllocError, Global};
 
-// Whether each slot is in the set.
-pub(crate) fn all_in(pairs: &[(Slot, Term)], slots: &Slots) -> bool
-    ensures { result ≡ list_all (λ p. slot_in slots.now p.0) pairs.now }
-{
-    for i in 0..pairs.len() {
-        if !slots.has(pairs[i].0) {
-            return false;
-        }
-    }
-    true
-}
-
-pub(crate) fn copy_in(
+// The pairs whose slot is in the set, or `None` where these are all. Those behind the last one that goes stay shared.
+#[tactic(auto, using(crate::specs::Projections::is_binding_project))]
+pub(crate) fn cut(
     alloc: Global,
-    pairs: &[(Slot, Term)],
+    binding: &Binding,
     slots: &Slots,
-) -> Result<Vec<(Slot, Term)>, AllocError>
-    ensures { IfOk result (λ v. v.items ≡ project slots.now pairs.now) }
+) -> Result<Option<Binding>, AllocError>
+    ensures { IfOk result (λ o. unwrap_or o binding.now ≡ project slots.now binding.now) }
 {
-    let mut copy = Vec::new(alloc);
-    for i in 0..pairs.len() {
-        let pair = &pairs[i];
-        if slots.has(pair.0) {
-            copy.push((pair.0, pair.1.share()?))?;
+    match binding.first() {
+        None => Ok(None),
+        Some(cell) => {
+            let rest = cut(alloc, &cell.rest, slots)?;
+            match rest {
+                None => {
+                    if slots.has(cell.slot) {
+                        return Ok(None);
+                    }
+                    Ok(Some(cell.rest.share()?))
+                }
+                Some(rest) => {
+                    if slots.has(cell.slot) {
+                        return Ok(Some(cell.with(alloc, rest)?));
+                    }
+                    Ok(Some(rest))
+                }
+            }
         }
     }
-    Ok(copy)
 }
 
-// The first place from here on whose slot is in the set, or the end.
-fn next_in(pairs: &[(Slot, Term)], from: usize, slots: &Slots) -> usize
-    requires { from ≤ length pairs.now }
-    ensures place { result ≡ from + position_or_len (λ p. slot_in slots.now p.0) (drop from pairs.now) }
-    ensures within { result ≤ length pairs.now }
+// The hash of the pairs whose slot is in the set.
+pub(crate) fn code_on(binding: &Binding, slots: &Slots) -> u64
+    ensures { result ≡ code_of (project slots.now binding.now) }
 {
-    for i in from..pairs.len() {
-        if slots.has(pairs[i].0) {
-            return i;
+    match binding.first() {
+        None => 0,
+        Some(cell) => {
+            let rest = code_on(&cell.rest, slots);
+            if slots.has(cell.slot) {
+                return pair_code(cell.slot, &cell.term, rest);
+            }
+            rest
         }
     }
-    pairs.len()
+}
+
+// The first cell whose slot is in the set.
+fn next_in<'a>(binding: &'a Binding, slots: &Slots) -> Option<&'a Cell>
+    ensures first { let kept = project slots.now binding.now in
+        MatchOption result (kept ≡ []) (λ c. kept ≡ (c.now.slot, c.now.term) ∷ project slots.now c.now.rest) }
+    ensures shorter { MatchOption result (Unit {0}) (λ c. length c.now.rest < length binding.now) }
+{
+    match binding.first() {
+        None => None,
+        Some(cell) => {
+            if slots.has(cell.slot) {
+                return Some(cell);
+            }
+            next_in(&cell.rest, slots)
+        }
+    }
 }
 
 // Whether the pairs in these slots are the same.
-pub(crate) fn same_in(xs: &[(Slot, Term)], ys: &[(Slot, Term)], slots: &Slots) -> bool
-    ensures { result ≡ same_pairs (project slots.now xs.now) (project slots.now ys.now) }
+pub(crate) fn same_in(a: &Binding, b: &Binding, slots: &Slots) -> bool
+    ensures { result ≡ same_pairs (project slots.now a.now) (project slots.now b.now) }
 {
-    let mut seen = 0;
-    for i in 0..xs.len() {
-        let pair = &xs[i];
-        if !slots.has(pair.0) {
-            continue;
+    match (next_in(a, slots), next_in(b, slots)) {
+        (None, None) => true,
+        (Some(left), Some(right)) => {
+            if !cmp_pair(left.slot, &left.term, right.slot, &right.term).is_eq() {
+                return false;
+            }
+            same_in(&left.rest, &right.rest, slots)
         }
-        let place = next_in(ys, seen, slots);
-        if place >= ys.len() {
-            return false;
-        }
-        if !cmp_pair(pair, &ys[place]).is_eq() {
-            return false;
-        }
-        seen = place + 1;
+        _ => false,
     }
-    next_in(ys, seen, slots) >= ys.len()
 }

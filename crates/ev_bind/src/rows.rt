@@ -3,16 +3,17 @@ ghost use Rattle.std.specs.Prelude.{◌≡◌, IfOk};
 ghost use Rattle.std.specs.Cmp.Lexicographic.{slice_cmp};
 ghost use Rattle.std.specs.Cmp.{partial_equiv_from_equiv, partial_order_from_agreeing_total};
 ghost use Rattle.std.specs.Ordering.{eq_by_cmp, as_partial_cmp};
-ghost use Rattle.std.proofs.Common.{refl};
+ghost use Rattle.std.proofs.Common.{ap, refl};
 ghost use Rattle.std.proofs.lemmas.Cmp.{eq_by_cmp_equiv};
 ghost use Rattle.ev_bind.specs.Bindings.{pair_cmp};
-ghost use Rattle.ev_bind.specs.Rows.{row_cmp, exact_rows};
+ghost use Rattle.ev_bind.specs.Rows.{row_cmp, exact_rows, row_writes, same_rows};
 
 use crate::bindings::Binding;
 use crate::pairs::cmp_pair;
-use event_model::{Slot, Span, Term, cmp_spans};
+use event_model::{Span, cmp_spans};
 use std::alloc::AllocError;
 use std::cmp::Ordering;
+use std::hash::{Hash, Hasher};
 
 /// A binding of the variables of a pattern, and the span on which it was found.
 #[derive(Drop)]
@@ -34,20 +35,21 @@ impl Row {
 }
 
 // From the left, each by slot and then by term.
-fn cmp_pairs(xs: &[(Slot, Term)], ys: &[(Slot, Term)]) -> Ordering
-    ensures { result ≡ slice_cmp pair_cmp xs.now ys.now }
+fn cmp_bindings(a: &Binding, b: &Binding) -> Ordering
+    ensures { result ≡ slice_cmp pair_cmp a.now b.now }
 {
-    for i in 0..xs.len() {
-        if i >= ys.len() {
-            return Ordering::Greater;
-        }
-        match cmp_pair(&xs[i], &ys[i]) {
-            Ordering::Less => return Ordering::Less,
-            Ordering::Equal => {}
-            Ordering::Greater => return Ordering::Greater,
+    match (a.first(), b.first()) {
+        (None, None) => Ordering::Equal,
+        (None, Some(_)) => Ordering::Less,
+        (Some(_), None) => Ordering::Greater,
+        (Some(left), Some(right)) => {
+            match cmp_pair(left.slot, &left.term, right.slot, &right.term) {
+                Ordering::Less => Ordering::Less,
+                Ordering::Equal => cmp_bindings(&left.rest, &right.rest),
+                Ordering::Greater => Ordering::Greater,
+            }
         }
     }
-    xs.len().cmp(&ys.len())
 }
 
 /// By start, end and then the pairs from the left.
@@ -56,8 +58,18 @@ pub fn cmp_rows(a: &Row, b: &Row) -> Ordering
 {
     match cmp_spans(a.span, b.span) {
         Ordering::Less => Ordering::Less,
-        Ordering::Equal => cmp_pairs(a.binding.pairs(), b.binding.pairs()),
+        Ordering::Equal => cmp_bindings(&a.binding, &b.binding),
         Ordering::Greater => Ordering::Greater,
+    }
+}
+
+impl Clone for Row {
+    ghost use Rattle.std.specs.Prelude.{◌≡◌};
+
+    ghost is_clone = { λ x y. y ≡ x };
+
+    fn clone(&self) -> Result<Row, AllocError> {
+        self.share()
     }
 }
 
@@ -66,8 +78,10 @@ impl PartialEq for Row {
 
     ghost laws = { partial_equiv_from_equiv (eq_by_cmp_equiv exact_rows.total) };
 
+    // Most rows that differ have different hashes.
+    #[tactic(auto, using(crate::specs::Rows::hashes_tell))]
     fn eq(&self, other: &Row) -> bool {
-        cmp_rows(self, other).is_eq()
+        self.binding.hash() == other.binding.hash() && cmp_rows(self, other).is_eq()
     }
 }
 
@@ -96,5 +110,17 @@ impl Ord for Row {
 
     fn cmp(&self, other: &Row) -> Ordering {
         cmp_rows(self, other)
+    }
+}
+
+impl Hash for Row {
+    ghost hash_input = { row_writes };
+
+    ghost respects_eq = { λ x y h. ap row_writes (same_rows x y h) };
+
+    fn hash<H: Hasher>(&self, state: &mut H) {
+        state.write_u64(self.binding.hash());
+        state.write_u64(self.span.start());
+        state.write_u64(self.span.end());
     }
 }
