@@ -12,18 +12,18 @@ fn is_number(term: &Term, value: i64) -> bool {
     }
 }
 
-// Whether a binding has exactly these pairs of slot and number.
+// Whether a binding has exactly these pairs of slot and number, with rising slots.
 fn has_pairs(binding: &Binding, wanted: &[(u8, i64)]) -> bool {
-    let pairs = binding.pairs();
-    if pairs.len() != wanted.len() {
-        return false;
-    }
-    for i in 0..pairs.len() {
-        if pairs[i].0.number() != wanted[i].0 || !is_number(&pairs[i].1, wanted[i].1) {
-            return false;
+    let mut seen = 0;
+    for number in 0..64u8 {
+        if let Some(term) = binding.get(Slot::new(number)) {
+            if seen >= wanted.len() || number != wanted[seen].0 || !is_number(term, wanted[seen].1) {
+                return false;
+            }
+            seen += 1;
         }
     }
-    true
+    seen == wanted.len()
 }
 
 // The binding of one slot to a number.
