@@ -17,7 +17,10 @@ fn has_pairs(binding: &Binding, wanted: &[(u8, i64)]) -> bool {
     let mut seen = 0;
     for number in 0..64u8 {
         if let Some(term) = binding.get(Slot::new(number)) {
-            if seen >= wanted.len() || number != wanted[seen].0 || !is_number(term, wanted[seen].1) {
+            if seen >= wanted.len()
+                || number != wanted[seen].0
+                || !is_number(term, wanted[seen].1)
+            {
                 return false;
             }
             seen += 1;

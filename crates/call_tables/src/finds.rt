@@ -1,48 +1,36 @@
 // The plain evaluator.
-use crate::fixtures::{atom, rules};
-use event_model::{Detection, Event, atom_text};
+use crate::fixtures::{checked, event};
+use event_model::atom_text;
 use pattern_meaning::scratch;
-use rule_check::check;
-use std::alloc::{AllocError, Global};
 use std::test::Fail;
 
-fn spans(alloc: Global, found: &[Detection]) -> Result<Vec<(u64, u64)>, AllocError> {
-    let mut spans = Vec::new(alloc);
-    for detection in found {
-        spans.push((detection.span.start(), detection.span.end()))?;
+// What stands over an `a(7)` from 1 to 2 and a `b(7)` at 3, by rules: the texts of the atoms, and the sum of the spans' edges.
+fn standing(rt: &(impl AllocGlobal), text: &str) -> Result<(String, u64), Fail> {
+    let alloc = rt.alloc();
+    let rules = checked(alloc, text)?;
+    let mut events = Vec::new(alloc);
+    events.push(event(alloc, "a", &[7], 1, 2)?)?;
+    events.push(event(alloc, "b", &[7], 3, 3)?)?;
+    let mut atoms = Vec::new(alloc);
+    let mut edges = 0u64;
+    for detection in scratch(alloc, &rules, &events)?.iter() {
+        atom_text(&detection.atom, &mut atoms)?;
+        edges = edges.saturating_add(detection.span.start() + detection.span.end());
     }
-    Ok(spans)
+    Ok((String::from_utf8(atoms)?, edges))
 }
 
 #[test]
-fn one_detection_is_found(rt: HostRuntime) -> Result<(), Fail> {
-    let alloc = rt.alloc();
-    let checked = check(alloc, rules(alloc, "ab(X) <- a(X) SEQ b(X).")?)?;
-    let mut events = Vec::new(alloc);
-    events.push(Event::new(1, atom(alloc, "a", &[7])?))?;
-    events.push(Event::new(2, atom(alloc, "b", &[7])?))?;
-    let found = scratch(alloc, &checked, &events)?;
-    assert_eq!(rt; spans(alloc, &found)?.as_slice(), [(1, 2)].as_slice());
-    let mut text = Vec::new(alloc);
-    for detection in found.iter() {
-        atom_text(&detection.atom, &mut text)?;
+fn rules_stand_on_events_and_on_rules(rt: HostRuntime) -> Result<(), Fail> {
+    let rows = [
+        ("ab(X) <- a(X) SEQ b(X).", "ab(7)", 4),
+        ("c <- a(_) SEQ b(_). d <- c AND b(X).", "cd", 8),
+        ("show n/0. n <- a(X) WHERE X > 7.", "", 0),
+    ];
+    for row in rows.iter() {
+        let (atoms, edges) = standing(&rt, row.0)?;
+        assert_eq!(rt; atoms.as_str(), row.1);
+        assert_eq!(rt; edges, row.2);
     }
-    assert_eq!(rt; text.as_slice(), b"ab(7)".as_slice());
-    Ok(())
-}
-
-#[test]
-fn rules_stand_on_rules(rt: HostRuntime) -> Result<(), Fail> {
-    let alloc = rt.alloc();
-    let checked = check(alloc, rules(alloc, "d <- c SEQ b. c <- a SEQ b.")?)?;
-    let mut events = Vec::new(alloc);
-    events.push(Event::new(1, atom(alloc, "a", &[])?))?;
-    events.push(Event::new(2, atom(alloc, "b", &[])?))?;
-    events.push(Event::new(3, atom(alloc, "b", &[])?))?;
-    let found = scratch(alloc, &checked, &events)?;
-    assert_eq!(rt;
-        spans(alloc, &found)?.as_slice(),
-        [(1, 2), (1, 3), (1, 3)].as_slice()
-    );
     Ok(())
 }

@@ -1,11 +1,10 @@
-// Atoms and rules that several tests take.
-ghost use Rattle.std.specs.Prelude.{◌≡◌, [], true, map, IfOk};
-ghost use Rattle.rule_ast.specs.Plain.{plain_statement, plain_rules};
-ghost use Rattle.rule_ast.specs.Shaped.{IsShaped};
-ghost use Rattle.rule_ast.specs.Shown.{shown_names};
+// What several tests take.
+ghost use Rattle.std.specs.Prelude.{IfOk};
+ghost use Rattle.rule_ast.specs.Plain.{plain_rules};
+ghost use Rattle.rule_check.specs.Verdict.{IsSound};
 
-use event_model::{Atom, Name, Pat, PatAtom, Pats, Slot, Term, Terms};
-use rule_ast::{RuleSet, Statement};
+use event_model::{Atom, Event, Name, Pat, PatAtom, Pats, Slot, Span, TIME_LIMIT, Term, Terms};
+use rule_check::{Checked, check};
 use rule_parser::parse;
 use std::alloc::{AllocError, Global};
 use std::test::Fail;
@@ -40,28 +39,30 @@ pub(crate) fn pattern(
     })
 }
 
-// Whether there are rules alone.
-fn are_rules(statements: &[Statement]) -> bool
-    ensures { result ≡ true → shown_names (map plain_statement statements.now) ≡ [] }
-{
-    for statement in statements {
-        match statement {
-            Statement::Rule(_) => {}
-            Statement::Show(_) => return false,
-        }
+// An event on a span.
+pub(crate) fn event(
+    alloc: Global,
+    name: &str,
+    args: &[i64],
+    start: u64,
+    end: u64,
+) -> Result<Event, Fail> {
+    if start > end || end >= TIME_LIMIT {
+        return Err(Fail::new("no span"));
     }
-    true
+    Ok(Event {
+        span: Span::new(start, end),
+        atom: atom(alloc, name, args)?,
+    })
 }
 
-// The rules of a text without `show`.
-pub(crate) fn rules(alloc: Global, text: &str) -> Result<RuleSet, Fail>
-    ensures shaped { IfOk result (λ r. IsShaped (plain_rules r)) }
-    ensures silent { IfOk result (λ r. shown_names (plain_rules r) ≡ []) }
+// The rules of a short text that is sound.
+pub(crate) fn checked(alloc: Global, text: &str) -> Result<Checked, Fail>
+    ensures { IfOk result (λ c. IsSound (plain_rules c)) }
 {
-    let rules = parse(alloc, text)?;
-    if are_rules(&rules.statements) {
-        Ok(rules)
-    } else {
-        Err(Fail::new("a show statement"))
+    if text.len() > 1000 {
+        return Err(Fail::new("a long text"));
     }
+    let rules = parse(alloc, text)?;
+    Ok(check(alloc, rules)?)
 }

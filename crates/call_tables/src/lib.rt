@@ -1,4 +1,4 @@
-//! Each public call of the lower crates once, on its happy path.
+//! Tests: public calls of the lower crates on their happy paths and at their tables, and the paths by which callers name them.
 #![tactic(auto)]
 
 #[cfg(test)]
@@ -13,6 +13,7 @@ mod finds;
 mod fixtures;
 #[cfg(test)]
 mod parses;
+pub mod paths;
 #[cfg(test)]
 mod reads;
 #[cfg(test)]

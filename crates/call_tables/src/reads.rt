@@ -1,27 +1,8 @@
-// Terms, atoms, and lines of the input.
-use event_model::{Input, term_text};
-use event_reader::{LineFault, parse_line};
-use line_reader::{Line, LineReader};
+// Lines of the input.
+use event_model::{Input, MOST_LINE_BYTES};
+use event_reader::{Line, LineFault, LineReader, parse_line};
 use std::alloc::Global;
 use std::test::Fail;
-use term_reader::{TermFault, read_atom, read_ground};
-
-#[test]
-fn a_term_is_read(rt: HostRuntime) -> Result<(), TermFault> {
-    let alloc = rt.alloc();
-    let (term, end) = read_ground(alloc, b"f(1,x)".as_slice(), 0)?;
-    let mut text = Vec::new(alloc);
-    term_text(&term, &mut text)?;
-    assert_eq!(rt; text.as_slice(), b"f(1,x)".as_slice());
-    assert_eq!(rt; end, 6);
-    Ok(())
-}
-
-#[test]
-fn a_great_number_is_refused(rt: HostRuntime) {
-    let read = read_atom(rt.alloc(), b"a(9223372036854775808)".as_slice(), 0);
-    assert!(rt; matches!(read, Err(TermFault::NumberRange(20))));
-}
 
 // Whether a line was given with these bytes.
 fn is(line: Option<Line<'_>>, bytes: &[u8]) -> bool {
@@ -46,23 +27,27 @@ fn lines_are_given_one_by_one(rt: HostRuntime) -> Result<(), Fail> {
 // What a line gives, without an event's atom.
 #[derive(Clone, Copy, Debug, PartialEq)]
 enum Given {
-    Added(u64),
-    Taken(u64),
+    Added(u64, u64),
+    Retracted(u64, u64),
     Time(u64),
     Nothing,
+    Begun,
+    Whole,
     Fault(usize),
     Refused,
 }
 
 fn read(alloc: Global, line: &[u8]) -> Given {
-    if line.len() > 65536 {
+    if line.len() > MOST_LINE_BYTES {
         return Given::Refused;
     }
     match parse_line(alloc, line) {
-        Ok(Input::Add(event)) => Given::Added(event.time()),
-        Ok(Input::Take(event)) => Given::Taken(event.time()),
+        Ok(Input::Add(event)) => Given::Added(event.span.start(), event.span.end()),
+        Ok(Input::Take(event)) => Given::Retracted(event.span.start(), event.span.end()),
         Ok(Input::Advance(time)) => Given::Time(time),
         Ok(Input::Nothing) => Given::Nothing,
+        Ok(Input::Begin) => Given::Begun,
+        Ok(Input::Commit) => Given::Whole,
         Err(LineFault::Syntax(at)) => Given::Fault(at),
         Err(LineFault::Memory) => Given::Refused,
     }
@@ -74,8 +59,20 @@ fn lines_give_inputs_and_places(rt: HostRuntime) {
         ("", Given::Nothing),
         (" \t", Given::Nothing),
         ("# note", Given::Nothing),
-        (" +\t007  a(f(1, b) , \"é\") \t", Given::Added(7)),
-        ("- 4611686018427387903 a", Given::Taken(4611686018427387903)),
+        (" +\t007  a(f(1, b) , \"é\") \t", Given::Added(7, 7)),
+        (
+            "- 1..4611686018427387903 a",
+            Given::Retracted(1, 4611686018427387903),
+        ),
+        (" begin\t", Given::Begun),
+        ("commit", Given::Whole),
+        ("+ 5..3 a", Given::Fault(5)),
+        ("+ 5.3 a", Given::Fault(4)),
+        ("+ 5..", Given::Fault(5)),
+        ("+ 5..7", Given::Fault(6)),
+        ("! 3..4", Given::Fault(3)),
+        ("beginning", Given::Fault(5)),
+        ("comit", Given::Fault(3)),
         ("! 5", Given::Time(5)),
         ("+", Given::Fault(1)),
         ("+ 1", Given::Fault(3)),

@@ -1,6 +1,5 @@
 // Rules as their canonical text.
-use rule_parser::parse;
-use rule_writer::rules_text;
+use rule_parser::{parse, rules_text};
 use std::test::Fail;
 
 #[test]
