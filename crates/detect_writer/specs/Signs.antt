@@ -1,9 +1,10 @@
 -- The signs of changes as they are written.
 use Rattle.std.specs.Prelude.{ℕ}
+use Rattle.event_model.specs.Bytes.{plus, minus}
 use Rattle.revision.specs.declared.changes.Sign.{Sign}
 use Rattle.revision.specs.declared.changes.Sign.TheVariants.{Plus, Minus}
 
 -- `+` or `-`
 abbrev pub sign_byte : Sign → ℕ
-sign_byte Plus = 43
-sign_byte Minus = 45
+sign_byte Plus = plus
+sign_byte Minus = minus

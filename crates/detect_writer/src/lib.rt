@@ -4,4 +4,4 @@
 mod lines;
 
 pub use event_model::Refusal;
-pub use lines::{change_text, end_text, ok_text, refusal_text};
+pub use lines::{change_text, drill_text, end_text, held_text, ok_text, refusal_text};

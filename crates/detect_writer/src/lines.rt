@@ -1,16 +1,16 @@
 // The lines of replies.
-ghost use Rattle.std.specs.Prelude.{◌≡◌, ◌++◌, ℕ, List, OnOk, OnErr, decimal, take};
+ghost use Rattle.std.specs.Prelude.{◌≡◌, ◌++◌, OnOk, OnErr, take};
 ghost use Rattle.std.specs.Io.{StartsWith};
 ghost use Rattle.detect_writer.specs.Signs.{sign_byte};
-ghost use Rattle.pattern_meaning.specs.Replies.{change_text, ok_text, refusal_text, end_text};
+ghost use Rattle.pattern_meaning.specs.Replies.{change_text, ok_text, refusal_text, end_text, held_text, drill_text};
 
 use event_model::{Detection, Refusal, atom_text};
-use itoa::Buffer;
+use itoa::{Buffer, Integer};
 use revision::Sign;
 use std::alloc::AllocError;
 
-fn push_number(number: u64, out: &mut Vec<u8>) -> Result<(), AllocError>
-    ensures ok { OnOk result (out.new.items ≡ out.old.items ++ decimal number) }
+fn push_number<I: Integer>(number: I, out: &mut Vec<u8>) -> Result<(), AllocError>
+    ensures ok { OnOk result (out.new.items ≡ out.old.items ++ I.text number) }
     ensures err { OnErr result (out.new.items ≡ out.old.items) }
 {
     let mut buffer = Buffer::new();
@@ -33,8 +33,13 @@ fn whole(
     written
 }
 
-fn push_between(front: &[u8], number: u64, back: &[u8], out: &mut Vec<u8>) -> Result<(), AllocError>
-    ensures ok { OnOk result (out.new.items ≡ out.old.items ++ front.now ++ decimal number ++ back.now) }
+fn push_between<I: Integer>(
+    front: &[u8],
+    number: I,
+    back: &[u8],
+    out: &mut Vec<u8>,
+) -> Result<(), AllocError>
+    ensures ok { OnOk result (out.new.items ≡ out.old.items ++ front.now ++ I.text number ++ back.now) }
     ensures err { OnErr result (StartsWith out.new.items out.old.items) }
 {
     out.extend_from_slice(front)?;
@@ -43,13 +48,13 @@ fn push_between(front: &[u8], number: u64, back: &[u8], out: &mut Vec<u8>) -> Re
 }
 
 // A number between words.
-fn push_numbered(
+fn push_numbered<I: Integer>(
     front: &[u8],
-    number: u64,
+    number: I,
     back: &[u8],
     out: &mut Vec<u8>,
 ) -> Result<(), AllocError>
-    ensures ok { OnOk result (out.new.items ≡ out.old.items ++ front.now ++ decimal number ++ back.now) }
+    ensures ok { OnOk result (out.new.items ≡ out.old.items ++ front.now ++ I.text number ++ back.now) }
     ensures err { OnErr result (out.new.items ≡ out.old.items) }
 {
     let before = out.len();
@@ -88,7 +93,7 @@ fn push_change(sign: Sign, detection: &Detection, out: &mut Vec<u8>) -> Result<(
     Ok(())
 }
 
-/// Appends `ok N`, which closes the reply to line N, one that is taken.
+/// Appends `ok N`, which closes the reply to line N, one that is accepted.
 pub fn ok_text(line: u64, out: &mut Vec<u8>) -> Result<(), AllocError>
     ensures ok { OnOk result (out.new.items ≡ out.old.items ++ ok_text line) }
     ensures err { OnErr result (out.new.items ≡ out.old.items) }
@@ -96,7 +101,7 @@ pub fn ok_text(line: u64, out: &mut Vec<u8>) -> Result<(), AllocError>
     push_numbered(b"ok ", line, b"\n", out)
 }
 
-/// Appends the reply to line N, one that is refused: `no N syntax AT`, `no N below BOUND` or `no N absent`.
+/// Appends the reply to line N, one that is refused: `no N syntax AT`, `no N batch`, `no N below BOUND` or `no N absent`.
 pub fn refusal_text(line: u64, refusal: Refusal, out: &mut Vec<u8>) -> Result<(), AllocError>
     ensures ok { OnOk result (out.new.items ≡ out.old.items ++ refusal_text line refusal) }
     ensures err { OnErr result (out.new.items ≡ out.old.items) }
@@ -115,6 +120,7 @@ fn push_refusal(line: u64, refusal: Refusal, out: &mut Vec<u8>) -> Result<(), Al
             push_numbered(b"no ", line, b" syntax ", out)?;
             push_numbered(b"", at, b"\n", out)
         }
+        Refusal::Batch => push_numbered(b"no ", line, b" batch\n", out),
         Refusal::Below(bound) => {
             push_numbered(b"no ", line, b" below ", out)?;
             push_numbered(b"", bound, b"\n", out)
@@ -123,10 +129,64 @@ fn push_refusal(line: u64, refusal: Refusal, out: &mut Vec<u8>) -> Result<(), Al
     }
 }
 
-/// Appends `end N`, the last line of the output, after N lines.
-pub fn end_text(lines: u64, out: &mut Vec<u8>) -> Result<(), AllocError>
-    ensures ok { OnOk result (out.new.items ≡ out.old.items ++ end_text lines) }
+/// Appends the last line of the output, after N lines: `end N`, or `end N open` where a batch is open.
+pub fn end_text(lines: u64, open_batch: bool, out: &mut Vec<u8>) -> Result<(), AllocError>
+    ensures ok { OnOk result (out.new.items ≡ out.old.items ++ end_text lines open_batch) }
     ensures err { OnErr result (out.new.items ≡ out.old.items) }
 {
+    if open_batch {
+        return push_numbered(b"end ", lines, b" open\n", out);
+    }
     push_numbered(b"end ", lines, b"\n", out)
+}
+
+/// Appends `held ROWS EVENTS`, how many rows and how many events are held.
+pub fn held_text(rows: u64, events: u64, out: &mut Vec<u8>) -> Result<(), AllocError>
+    ensures ok { OnOk result (out.new.items ≡ out.old.items ++ held_text rows events) }
+    ensures err { OnErr result (out.new.items ≡ out.old.items) }
+{
+    let before = out.len();
+    let written = push_held(rows, events, out);
+    whole(before, written, out)
+}
+
+fn push_held(rows: u64, events: u64, out: &mut Vec<u8>) -> Result<(), AllocError>
+    ensures ok { OnOk result (out.new.items ≡ out.old.items ++ held_text rows events) }
+    ensures err { OnErr result (StartsWith out.new.items out.old.items) }
+{
+    push_numbered(b"held ", rows, b" ", out)?;
+    push_numbered(b"", events, b"\n", out)
+}
+
+/// Appends `drill D W V H`: how many detections were told over a drill, how many were withdrawn, how many visits were made, and the
+/// most rows held.
+pub fn drill_text(
+    told: u128,
+    withdrawn: u128,
+    visits: u128,
+    held: u64,
+    out: &mut Vec<u8>,
+) -> Result<(), AllocError>
+    ensures ok { OnOk result (out.new.items ≡ out.old.items ++ drill_text told withdrawn visits held) }
+    ensures err { OnErr result (out.new.items ≡ out.old.items) }
+{
+    let before = out.len();
+    let written = push_drill(told, withdrawn, visits, held, out);
+    whole(before, written, out)
+}
+
+fn push_drill(
+    told: u128,
+    withdrawn: u128,
+    visits: u128,
+    held: u64,
+    out: &mut Vec<u8>,
+) -> Result<(), AllocError>
+    ensures ok { OnOk result (out.new.items ≡ out.old.items ++ drill_text told withdrawn visits held) }
+    ensures err { OnErr result (StartsWith out.new.items out.old.items) }
+{
+    push_numbered(b"drill ", told, b" ", out)?;
+    push_numbered(b"", withdrawn, b" ", out)?;
+    push_numbered(b"", visits, b" ", out)?;
+    push_numbered(b"", held, b"\n", out)
 }

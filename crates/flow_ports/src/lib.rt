@@ -9,6 +9,6 @@ mod tests;
 mod whole;
 
 pub use memory::{MemShelf, MemSink, MemSource};
-pub use ports::{Failed, Shelf, Sink, Source};
+pub use ports::{Failed, LAST_COUNT, Shelf, Sink, Source};
 pub use real::{FileShelf, FromReader, ToWriter};
 pub use whole::{WholeFault, read_whole, write_whole};

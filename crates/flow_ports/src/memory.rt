@@ -45,7 +45,7 @@ impl MemSource {
 impl Source for MemSource {
     ghost use Rattle.std.specs.Io.{ReadsAtMost};
     ghost use Rattle.flow_ports.specs.Flow.{CountsFaults, Takes};
-    ghost use Rattle.flow_ports.specs.Calls.{next_call, piece_len};
+    ghost use Rattle.flow_ports.specs.Calls.{next_call, next_fault, piece_len};
     ghost use Rattle.flow_ports.specs.MemSource.{bytes_of, pieces_of, fails_of, calls_of, faults_of};
 
     ghost left = { λ s. Some (bytes_of s) };
@@ -63,11 +63,13 @@ impl Source for MemSource {
         ensures count { CountsFaults (faults_of self.old) (faults_of self.new) result }
         ensures range { OnErr result (faults_of self.new < 2 ^ 64) }
 
-        // How much the call gives, and whether it fails.
+        // How much the call gives, and whether it fails; a call that fails leaves the buffer.
         ensures amount { IfOk result (λ n.
             n ≡ piece_len (slice_get (pieces_of self.old) (calls_of self.old))
             (min (length (bytes_of self.old)) (length buf.new))) }
         ensures fails { IsErr result ↔ Contains (fails_of self.old) (next_call (calls_of self.old)) }
+        ensures fault { OnErr result (faults_of self.new ≡ next_fault (faults_of self.old)) }
+        ensures kept { OnErr result (buf.new ≡ buf.old) }
         ensures calls { calls_of self.new ≡ next_call (calls_of self.old) }
         ensures pieces_stay { pieces_of self.new ≡ pieces_of self.old }
         ensures fails_stay { fails_of self.new ≡ fails_of self.old }
@@ -132,7 +134,7 @@ impl MemSink {
 impl Sink for MemSink {
     ghost use Rattle.std.specs.Io.{WritesAtMost};
     ghost use Rattle.flow_ports.specs.Flow.{CountsFaults, Gives};
-    ghost use Rattle.flow_ports.specs.Calls.{next_call};
+    ghost use Rattle.flow_ports.specs.Calls.{next_call, next_fault};
     ghost use Rattle.flow_ports.specs.MemSink.{bytes_of, room_of, fails_of, calls_of, faults_of};
 
     ghost got = { λ s. Some (bytes_of s) };
@@ -156,6 +158,7 @@ impl Sink for MemSink {
         ensures fails { IsErr result
             ↔ (Contains (fails_of self.old) (next_call (calls_of self.old))
             ⊎ ((room_of self.old ≡ 0) × (0 < length bytes.now))) }
+        ensures fault { OnErr result (faults_of self.new ≡ next_fault (faults_of self.old)) }
         ensures calls { calls_of self.new ≡ next_call (calls_of self.old) }
         ensures fails_stay { fails_of self.new ≡ fails_of self.old }
     {
@@ -228,7 +231,7 @@ fn file_at<'a>(files: &'a Vec<(String, Vec<u8>)>, name: &str) -> Option<&'a Vec<
 impl Shelf for MemShelf {
     ghost use Rattle.std.specs.Io.{ReadsAtMost};
     ghost use Rattle.flow_ports.specs.Flow.{CountsFaults};
-    ghost use Rattle.flow_ports.specs.Calls.{next_call};
+    ghost use Rattle.flow_ports.specs.Calls.{next_call, next_fault};
     ghost use Rattle.flow_ports.specs.MemShelf.{files_of, fails_of, calls_of, faults_of};
 
     ghost serves = { λ s name. true };
@@ -249,13 +252,16 @@ impl Shelf for MemShelf {
         ensures count { CountsFaults (faults_of self.old) (faults_of self.new) result }
         ensures range { OnErr result (faults_of self.new < 2 ^ 64) }
 
-        // How much the call gives, and whether it fails.
+        // How much the call gives, and whether it fails; what it doesn't give of the buffer is as before.
         ensures amount { IfOk result (λ n.
             IfSome (held_at (files_of self.old) name.now) (λ bytes.
             n ≡ min (length bytes - at) (length buf.new))) }
         ensures fails { IsErr result
             ↔ (Contains (fails_of self.old) (next_call (calls_of self.old))
             ⊎ (held_at (files_of self.old) name.now ≡ None)) }
+        ensures fault { OnErr result (faults_of self.new ≡ next_fault (faults_of self.old)) }
+        ensures rest { IfOk result (λ n. drop n buf.new ≡ drop n buf.old) }
+        ensures kept { OnErr result (buf.new ≡ buf.old) }
         ensures calls { calls_of self.new ≡ next_call (calls_of self.old) }
         ensures fails_stay { fails_of self.new ≡ fails_of self.old }
     {

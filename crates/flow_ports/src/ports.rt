@@ -5,6 +5,9 @@ ghost use Rattle.flow_ports.specs.Flow.{CountsFaults, Takes, Gives, IsAtEnd};
 
 use thiserror::Error;
 
+/// The last value of a count of calls or faults, at which it stays.
+pub const LAST_COUNT: u64 = u64::MAX;
+
 /// The one fault of a stream or a file.
 #[derive(Clone, Copy, Debug, PartialEq, Eq, Error)]
 #[error("the device failed")]
