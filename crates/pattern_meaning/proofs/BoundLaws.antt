@@ -1,5 +1,5 @@
 -- Each row of a pattern binds exactly the pattern's variables.
-use Rattle.std.proofs.Common.{inl, inr, ◌≡◌, ◌≤◌, ℕ, zero, suc, Bool, true, false, cond, ◌&&◌, ◌||◌, Option, Some, None, List, [], ◌∷◌, ◌++◌, map, length, refl, sym, ap, ◌∙◌, subst}
+use Rattle.std.proofs.Common.{inl, inr, ◌≡◌, ℕ, zero, suc, Bool, true, false, cond, ◌&&◌, ◌||◌, Option, Some, None, List, [], ◌∷◌, ◌++◌, map, length, refl, sym, ap, ◌∙◌}
 use Rattle.std.specs.Prelude.{◌==◌, is_some, nat_lt, nat_le}
 use Rattle.std.specs.List.{filter, flat_map, list_all, list_any}
 use Rattle.std.specs.Str.{bytes_eq}
@@ -25,7 +25,7 @@ use Rattle.event_model.specs.declared.atoms.PatAtom.{PatAtom}
 use Rattle.event_model.specs.declared.atoms.NameArity.{NameArity}
 use Rattle.event_model.proofs.Layers.{Each as EachPart, args_of as parts_of, by_layers}
 use Rattle.interval_ops.specs.Operators.{pair}
-use Rattle.ev_bind.specs.Bindings.{Pairs, pair_cmp, single, join, value_at, exact_pairs}
+use Rattle.ev_bind.specs.Bindings.{Pairs, pair_cmp, single, value_at, exact_pairs}
 use Rattle.ev_bind.specs.Matching.{match_of_args, match_of, instance}
 use Rattle.ev_bind.specs.Fits.{occurs, occurs_step, occurs_at}
 use Rattle.ev_bind.specs.Rows.{row_cmp}
@@ -33,14 +33,14 @@ use Rattle.ev_bind.specs.declared.rows.Row.{Row}
 use Rattle.ev_bind.proofs.Fitting.{found as match_found}
 use Rattle.rule_ast.specs.Trees.{PlainCond, Value, Calculate, Compare, AndAlso, OrElse, Negate, PlainPattern, Atom, Both, Either, Where, Exact, Within, Not, PlainRule, PlainStatement, Clause, Show}
 use Rattle.rule_ast.specs.Vars.{slots_of, slots_step, slots_at, atom_vars, vars, is_in, is_in-none, is_in-cons, is_in-append}
-use Rattle.rule_ast.specs.Shaped.{passes, parts_pass, is_variable, is_ground, is_head_argument, is_operand, is_length, is_shaped_cond, is_shaped_pattern, is_shaped_head, is_shaped_rule, is_shaped_statement, IsShaped}
+use Rattle.rule_ast.specs.Shaped.{passes, parts_pass, is_variable, is_ground, is_head_argument, is_length, is_shaped_cond, is_shaped_pattern, is_shaped_head, is_shaped_rule, is_shaped_statement, IsShaped}
 use Rattle.rule_check.specs.Offenders.{cond_vars}
-use Rattle.rule_check.specs.Sound.{rules_of, AreAmong, AreWheresBound, AreOrsAlike, AreNotsBound, IsSafe, AreSafe}
+use Rattle.rule_check.specs.Sound.{rules_of, AreWheresBound, AreOrsAlike, AreNotsBound, IsSafe, AreSafe}
 use Rattle.rule_check.specs.Verdict.{IsSound}
 use Rattle.term_eval.specs.Values.{holds, binds, binds_argument}
 use Rattle.pattern_meaning.specs.PatternRows.{spanned, numbered, found, args_of, matched, name_of, is_of, events_of, head_row, rows_of}
 use Rattle.pattern_meaning.specs.RuleRows.{joined, joined_rows, is_long, is_short, rows, has_head, head_rows, named_rows}
-use Rattle.pattern_meaning.specs.Bound.{BindsExactly, AreRowsBound, AreConditionsBound, AreChainsBound, IsHeadBoundBy, IsBoundBy, IsRowOfName}
+use Rattle.pattern_meaning.specs.Bound.{BindsExactly, AreRowsBound, AreConditionsBound, AreChainsBound, IsBoundBy, IsRowOfName}
 use Rattle.pattern_meaning.proofs.Eachs.{each, Each-more, Each-map}
 use Rattle.pattern_meaning.proofs.FoundLaws.{args_of-found}
 

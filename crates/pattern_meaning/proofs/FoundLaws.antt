@@ -1,5 +1,5 @@
 -- What the plain evaluator of rules finds is what stands.
-use Rattle.std.proofs.Common.{◌≡◌, ◌≤◌, ℕ, zero, suc, Bool, true, false, cond, ◌&&◌, ◌==◌, List, [], ◌∷◌, ◌++◌, map, length, Option, Some, None, refl, sym, ap, ◌∙◌, eq-eqb, arith}
+use Rattle.std.proofs.Common.{◌≡◌, ℕ, suc, Bool, true, false, cond, ◌&&◌, ◌==◌, List, [], ◌∷◌, ◌++◌, map, length, Option, Some, None, refl, sym, ap, ◌∙◌, eq-eqb, arith}
 use Rattle.std.specs.Prelude.{option_and_then}
 use Rattle.std.specs.List.{filter, flat_map}
 use Rattle.std.specs.Str.{bytes_eq}
@@ -10,7 +10,7 @@ use Rattle.std.proofs.lemmas.List.Elements.{filter-append}
 use Rattle.std.proofs.lemmas.Slice.Eq.{bytes_eq-Decides}
 use Rattle.ordered_lists.specs.Lists.{some_of, Each, flat_map_cut}
 use Rattle.ordered_lists.specs.Canon.{canon, Exact}
-use Rattle.ordered_lists.specs.Members.{canon-map-canon, canon-append-canon_both, canon-append-canon_after, canon-flat_map-canon}
+use Rattle.ordered_lists.specs.Members.{canon-map-canon, canon-append-canon_both, canon-flat_map-canon}
 use Rattle.event_model.specs.Spans.{PlainSpan}
 use Rattle.event_model.specs.Events.{span_of}
 use Rattle.event_model.specs.declared.events.Event.{Event}
@@ -24,16 +24,11 @@ use Rattle.ev_bind.specs.Bindings.{Pairs, union_of}
 use Rattle.ev_bind.specs.Matching.{pairs_of, pairs_of_all, with_pairs, match_of_args, instance}
 use Rattle.ev_bind.specs.Rows.{exact_rows}
 use Rattle.ev_bind.specs.declared.rows.Row.{Row}
-use Rattle.rule_ast.specs.Trees.{PlainRule, PlainStatement, Clause, Show}
-use Rattle.rule_check.specs.Sound.{rules_of}
-use Rattle.rule_check.specs.Names.{outputs}
-use Rattle.rule_check.specs.Graphs.{greatest}
-use Rattle.rule_check.specs.Cycles.{IsRanking, rank_of, rank_most}
-use Rattle.pattern_meaning.proofs.Eachs.{each, Each-more}
+use Rattle.rule_ast.specs.Trees.{PlainRule}
+use Rattle.pattern_meaning.proofs.Eachs.{each}
 use Rattle.pattern_meaning.specs.PatternRows.{rows_of, numbered, found, args_of, matched, spanned, name_of, is_of, events_of, head_row}
-use Rattle.pattern_meaning.specs.Standing.{detection_of, standing}
-use Rattle.pattern_meaning.specs.RuleRows.{rows, has_head, head_rows, named_rows, name_rows}
-use Rattle.pattern_meaning.specs.Depths.{named_same}
+use Rattle.pattern_meaning.specs.Standing.{detection_of}
+use Rattle.pattern_meaning.specs.RuleRows.{has_head}
 use Rattle.pattern_meaning.specs.Found.{of_name, found_row, named_in, matched_rows, head_detection, as_detection}
 
 numbered-args : (k : ℕ) (ts : List Term) → map (λ p. p.1) (numbered k ts) ≡ ts

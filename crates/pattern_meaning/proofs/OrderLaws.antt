@@ -1,16 +1,23 @@
 -- Rules that are evaluated once, each after those of the names in its body, find the rows of names.
-use Rattle.std.proofs.Common.{◌≡◌, ◌≤◌, ◌<◌, ◌+◌, ℕ, zero, suc, Bool, true, false, cond, ◌&&◌, ◌||◌, ◌==◌, List, [], ◌∷◌, ◌++◌, map, length, refl, sym, ap, ◌∙◌, subst, eq-eqb, ne_eqb, append_assoc, append-nil, add-one, arith}
+use Rattle.std.proofs.Common.{◌≡◌, ◌≤◌, ◌<◌, ℕ, suc, Bool, true, false, cond, not, ◌&&◌, ◌||◌, ◌==◌, List, [], ◌∷◌, ◌++◌, map, length, refl, sym, ap, ◌∙◌, subst, eq-eqb, ne_eqb, append_assoc, append-nil, arith}
 use Rattle.std.specs.List.{filter, flat_map}
 use Rattle.std.specs.Str.{bytes_eq}
-use Rattle.std.specs.Ordering.{is_eq}
-use Rattle.std.proofs.lemmas.Bool.{true≢false, eqb-true, eqb-false}
+use Rattle.std.specs.Ordering.{is_eq, is_lt, nat_cmp, MatchOrdering}
+use Rattle.std.specs.Cmp.{ranks}
+use Rattle.std.specs.declared.cmp.Ordering.{Ordering}
+use Rattle.std.specs.declared.cmp.Ordering.TheVariants.{Less, Equal, Greater}
+use Rattle.std.proofs.lemmas.Bool.{true≢false, leb-true, le-leb}
+use Rattle.std.specs.Prelude.{nat_le}
+use Rattle.std.specs.List.{All}
+use Rattle.std.specs.List.Sorted.{IsPermutation, IsNonDecreasingBy, IsStableByKey, ties}
+use Rattle.std.proofs.lemmas.List.Sorted.{All-permutation}
 use Rattle.std.proofs.lemmas.List.{map-append}
 use Rattle.std.proofs.lemmas.List.Concat.{flat_map-append}
-use Rattle.std.proofs.lemmas.List.Elements.{filter-append}
+use Rattle.std.proofs.lemmas.List.Elements.{filter-append, All-nil, All-cons, All-head, All-tail}
 use Rattle.std.proofs.lemmas.Slice.Eq.{bytes_eq-Decides}
-use Rattle.ordered_lists.specs.Lists.{Each, Each-filter, Each-filter_passes, filter-filter, filter_agree_on}
+use Rattle.ordered_lists.specs.Lists.{Each, Each-filter_passes, filter-filter, filter_agree_on}
 use Rattle.ordered_lists.specs.Canon.{canon, has}
-use Rattle.ordered_lists.specs.Members.{canon-append-canon, canon-append-canon_after}
+use Rattle.ordered_lists.specs.Members.{filter_agree, canon-append-canon, canon-append-canon_after}
 use Rattle.event_model.specs.declared.events.Event.{Event}
 use Rattle.event_model.specs.EventOrder.{name_cmp, detection_cmp, exact_detections, same_names}
 use Rattle.event_model.specs.declared.atoms.NameArity.{NameArity}
@@ -22,13 +29,14 @@ use Rattle.rule_check.specs.Sound.{rules_of}
 use Rattle.rule_check.specs.Names.{head_name, head_names, body_names, outputs}
 use Rattle.rule_check.specs.Graphs.{greatest}
 use Rattle.rule_check.specs.Cycles.{below, IsRanking, rank_of, rank_most}
-use Rattle.pattern_meaning.specs.PatternRows.{rows_of, found, is_of, events_of, head_row}
+use Rattle.pattern_meaning.specs.PatternRows.{rows_of, is_of, events_of, head_row}
 use Rattle.pattern_meaning.specs.Standing.{detection_of, standing}
-use Rattle.pattern_meaning.specs.RuleRows.{rows, has_head, head_rows, named_rows, name_rows}
-use Rattle.pattern_meaning.specs.Depths.{rows_same, named_same, head_ties, bodies_below, greatest_of, in_left, in_right, ties_itself, unranked, one_more}
-use Rattle.pattern_meaning.specs.Found.{of_name, found_row, named_in, head_detection, as_detection, Words, named_by, with_one, with_all, rule_detections, with_rules, has_rank, by_rank}
-use Rattle.pattern_meaning.specs.RuleOrder.{ranked_by, of_rank}
-use Rattle.pattern_meaning.proofs.Eachs.{Each-more}
+use Rattle.pattern_meaning.specs.RuleRows.{rows, has_head, head_rows, name_rows}
+use Rattle.pattern_meaning.specs.Depths.{rows_same, named_same, head_ties, greatest_of, in_left, in_right, ties_itself, one_more}
+use Rattle.pattern_meaning.specs.Found.{of_name, found_row, named_in, head_detection, as_detection, Words, named_by, with_one, with_all, rule_detections, with_rules, is_within, AreReady, IsOrdered}
+use Rattle.pattern_meaning.specs.RuleOrder.{ranked_by}
+use Rattle.pattern_meaning.specs.declared.rule_order.Ranked.{Ranked}
+use Rattle.pattern_meaning.proofs.Eachs.{Each-more, Each-map}
 use Rattle.pattern_meaning.proofs.FoundLaws.{events_are, heads_of, rows_in_both, named_detections, parts_alike}
 
 -- ---- what is found is put behind what was found
@@ -80,11 +88,6 @@ module _ (rules : List PlainRule) (events : List Event) (ranking : IsRanking rul
   abbrev IsReady : List PlainRule → PlainRule → Type 0
   IsReady done r = (m : NameArity) → has name_cmp m (body_names r.body) ≡ true → IsDone done m
 
-  -- after these rules, each of the rest is ready when its turn comes
-  abbrev AreReady : List PlainRule → List PlainRule → Type 0
-  AreReady done [] = Unit {0}
-  AreReady done (r ∷ rest) = IsReady done r × AreReady (done ++ r ∷ []) rest
-
   -- the rows that a name has by these rules
   abbrev rows_by : List PlainRule → NameArity → List Row
   rows_by done n = rows_of (events_of events n ++ flat_map (head_rows full) (filter (has_head n) done))
@@ -134,7 +137,7 @@ module _ (rules : List PlainRule) (events : List Event) (ranking : IsRanking rul
       at false = ap rows_of (append-nil before) ∙ ap (λ rs. rows_of (events_of events n ++ flat_map (head_rows full) rs)) (sym (append-nil (filter (has_head n) done)))
 
   -- and one after the other
-  pub all_rules : (words : Words) (done rest : List PlainRule) → Holds words done → AreReady done rest → Holds (with_rules words rest) (done ++ rest)
+  pub all_rules : (words : Words) (done rest : List PlainRule) → Holds words done → AreReady rules done rest → Holds (with_rules words rest) (done ++ rest)
   all_rules words done [] h ready = subst (Holds words) (sym (append-nil done)) h
   all_rules words done (r ∷ rest) h ready =
       let next = with_all words (rule_detections words r) in
@@ -148,49 +151,14 @@ module _ (rules : List PlainRule) (events : List Event) (ranking : IsRanking rul
       ∙ (λ i. rows_of (named_in (none n.name i) n ++ events_are n events i))
       ∙ ap rows_of (sym (append-nil (events_of events n)))
 
-  -- ---- the order of ranks
+-- ---- the order of ranks
 
-  -- those of a name among those of a rank: all of them, or none
-  name_and_rank : (n : NameArity) (d : ℕ) → filter (has_head n) (filter (has_rank rules d) rules) ≡ cond (rank n == d) (filter (has_head n) rules) []
-  name_and_rank n d =
-      filter-filter (has_head n) (has_rank rules d) rules
-      ∙ filter_agree_on (has_rank rules d) (λ _. rank n == d) (has_head n) (λ r e. ap (λ m. rank m == d) (sym (same_names n (head_name r) (head_ties n r e)))) rules
-      ∙ constant (rank n == d) (filter (has_head n) rules)
-    where
-      constant : (b : Bool) (rs : List PlainRule) → filter (λ _. b) rs ≡ cond b rs []
-      constant true [] = refl
-      constant true (r ∷ rs) = ap (λ l. r ∷ l) (constant true rs)
-      constant false [] = refl
-      constant false (r ∷ rs) = constant false rs
+-- the names in the body of a rule have lower ranks than its head
+abbrev IsAbove : List PlainRule → PlainRule → Type 0
+IsAbove rules r = (m : NameArity) → has name_cmp m (body_names r.body) ≡ true → rank_of rules m < rank_of rules (head_name r)
 
-  none_yet : (n : NameArity) (k : ℕ) → k < rank n → filter (has_head n) (by_rank rules k) ≡ []
-  none_yet n zero h = refl
-  none_yet n (suc k) h =
-      filter-append (has_head n) (by_rank rules k) (filter (has_rank rules (suc k)) rules)
-      ∙ ap (λ l. l ++ filter (has_head n) (filter (has_rank rules (suc k)) rules)) (none_yet n k (omega (arith, h)))
-      ∙ name_and_rank n (suc k)
-      ∙ ap (λ b. cond b (filter (has_head n) rules) []) (ne_eqb (rank n) (suc k) (λ e. absurd (omega (arith, h, e))))
-
-  all_done : (n : NameArity) (k : ℕ) → rank n ≤ k → IsDone (by_rank rules k) n
-  all_done n zero h = sym (unranked rules events rank ranking n (omega (arith, h)))
-  all_done n (suc k) h =
-      filter-append (has_head n) (by_rank rules k) (filter (has_rank rules (suc k)) rules)
-      ∙ ap (λ l. filter (has_head n) (by_rank rules k) ++ l) (name_and_rank n (suc k))
-      ∙ at (rank n == suc k) refl (λ l. all_done n k l)
-    where
-      at : (b : Bool) → (rank n == suc k) ≡ b → (rank n ≤ k → IsDone (by_rank rules k) n)
-          → filter (has_head n) (by_rank rules k) ++ cond b (filter (has_head n) rules) [] ≡ filter (has_head n) rules
-      at true e lower = ap (λ l. l ++ filter (has_head n) rules) (none_yet n k (let same : rank n ≡ suc k = eqb-true (rank n) (suc k) e in omega (arith, same)))
-      at false e lower = append-nil (filter (has_head n) (by_rank rules k)) ∙ lower (below_it e)
-        where
-          below_it : (rank n == suc k) ≡ false → rank n ≤ k
-          below_it e = let other : rank n ≡ suc k → ⊥ = eqb-false (rank n) (suc k) e in omega (arith, h, other)
-
-  abbrev IsAbove : PlainRule → Type 0
-  IsAbove r = (m : NameArity) → has name_cmp m (body_names r.body) ≡ true → rank m < rank (head_name r)
-
-  -- the names in the body of a rule have lower ranks than its head
-  ranks_fall : (pre rs : List PlainRule) → pre ++ rs ≡ rules → Each IsAbove rs
+module _ (rules : List PlainRule) (ranking : IsRanking rules (rank_of rules)) where
+  ranks_fall : (pre rs : List PlainRule) → pre ++ rs ≡ rules → Each (IsAbove rules) rs
   ranks_fall pre [] e = tt
   ranks_fall pre (r ∷ rs) e = (own, ranks_fall (pre ++ r ∷ []) rs (append_assoc pre (r ∷ []) rs ∙ e))
     where
@@ -210,37 +178,159 @@ module _ (rules : List PlainRule) (events : List Event) (ranking : IsRanking rul
           ∙ in_right m (below pre n) (below (r ∷ rs) n) (in_left m (cond (is_eq (name_cmp n n)) (body_names r.body) []) (below rs n)
           (ap (λ b. has name_cmp m (cond b (body_names r.body) [])) (ties_itself n) ∙ h))
 
-      own : IsAbove r
+      own : IsAbove rules r
       own m h =
-          let most = greatest_of rank m (below rules n) (under m h) in
-          let more = one_more rules events rank ranking n heads in
+          let most = greatest_of (rank_of rules) m (below rules n) (under m h) in
+          let more = one_more rules [] (rank_of rules) ranking n heads in
           omega (arith, most, more)
 
-  -- those of a rank are ready after those of lower ranks
-  rank_ready : (k : ℕ) (done rs : List PlainRule) → ((m : NameArity) → rank m ≤ k → IsDone done m)
-      → Each (λ r. IsAbove r × (has_rank rules (suc k) r ≡ true)) rs
-      → AreReady done rs
-  rank_ready k done [] h a = tt
-  rank_ready k done (r ∷ rs) h a =
-      let d : rank (head_name r) ≡ suc k = eqb-true (rank (head_name r)) (suc k) a.0.1 in
-      ((λ m e. let less = a.0.0 m e in h m (omega (arith, d, less))), rank_ready k (done ++ r ∷ []) rs (λ m l. still m l (λ e. let same = ap rank (same_names m (head_name r) (head_ties m r e)) in absurd (omega (arith, d, l, same)))) a.1)
+-- ---- rules that are sorted by rank
+
+constant : {A : Type 0} (b : Bool) (xs : List A) → filter (λ _. b) xs ≡ cond b xs []
+constant true [] = refl
+constant true (x ∷ xs) = ap (λ l. x ∷ l) (constant true xs)
+constant false [] = refl
+constant false (x ∷ xs) = constant false xs
+
+filter_map : {A : Type 0} (p : PlainRule → Bool) (plain : A → PlainRule) (xs : List A) → filter p (map plain xs) ≡ map plain (filter (λ x. p (plain x)) xs)
+filter_map p plain [] = refl
+filter_map p plain (x ∷ xs) = at (p (plain x)) (filter_map p plain xs)
+  where
+    at : (b : Bool) → filter p (map plain xs) ≡ map plain (filter (λ x. p (plain x)) xs)
+        → cond b (plain x ∷ filter p (map plain xs)) (filter p (map plain xs)) ≡ map plain (cond b (x ∷ filter (λ x. p (plain x)) xs) (filter (λ x. p (plain x)) xs))
+    at true h = ap (λ l. plain x ∷ l) h
+    at false h = h
+
+module _ {A : Type 0} (rules : List PlainRule) (ranking : IsRanking rules (rank_of rules)) (most : ℕ) (key : A → ℕ) (plain : A → PlainRule) where
+  -- of a rule and a number: the number is the rank of its head and isn't greater than the greatest, and the names in its body have lower ones
+  abbrev PairFits : PlainRule × ℕ → Type 0
+  PairFits p = (p.1 ≡ rank_of rules (head_name p.0)) × (p.1 ≤ most) × IsAbove rules p.0
+
+  abbrev Fits : A → Type 0
+  Fits x = PairFits (plain x, key x)
+
+  abbrev heads_it : NameArity → A → Bool
+  heads_it n x = has_head n (plain x)
+
+  key_of_name : (n : NameArity) (x : A) → Fits x → heads_it n x ≡ true → key x ≡ rank_of rules n
+  key_of_name n x f e = f.0 ∙ sym (ap (rank_of rules) (same_names n (head_name (plain x)) (head_ties n (plain x) e)))
+
+  -- those of a name are among those of its rank
+  own_class : (n : NameArity) (xs : List A) → All Fits xs → filter (heads_it n) xs ≡ filter (heads_it n) (filter (λ x. key x == rank_of rules n) xs)
+  own_class n [] a = refl
+  own_class n (x ∷ xs) a = at (heads_it n x) refl (key x == rank_of rules n) refl (own_class n xs (All-tail Fits x xs a))
     where
-      still : (m : NameArity) → rank m ≤ k → (has_head m r ≡ true → ⊥) → IsDone (done ++ r ∷ []) m
-      still m l other = filter-append (has_head m) done (r ∷ []) ∙ at (has_head m r) refl ∙ h m l
-        where
-          at : (b : Bool) → has_head m r ≡ b → filter (has_head m) done ++ cond b (r ∷ []) [] ≡ filter (has_head m) done
-          at true e = absurd (other e)
-          at false e = append-nil (filter (has_head m) done)
+      class : List A
+      class = filter (λ x. key x == rank_of rules n) xs
 
-  ready_more : (done xs ys : List PlainRule) → AreReady done xs → AreReady (done ++ xs) ys → AreReady done (xs ++ ys)
-  ready_more done [] ys a b = subst (λ l. AreReady l ys) (append-nil done) b
-  ready_more done (x ∷ xs) ys a b = (a.0, ready_more (done ++ x ∷ []) xs ys a.1 (subst (λ l. AreReady l ys) (sym (append_assoc done (x ∷ []) xs)) b))
+      at : (b : Bool) → heads_it n x ≡ b → (c : Bool) → (key x == rank_of rules n) ≡ c → filter (heads_it n) xs ≡ filter (heads_it n) class
+          → cond b (x ∷ filter (heads_it n) xs) (filter (heads_it n) xs) ≡ filter (heads_it n) (cond c (x ∷ class) class)
+      at true e true g h = ap (λ l. x ∷ l) h ∙ sym (ap (λ b. cond b (x ∷ filter (heads_it n) class) (filter (heads_it n) class)) e)
+      at true e false g h = absurd (true≢false (sym (eq-eqb (key x) (rank_of rules n) (key_of_name n x (All-head Fits x xs a) e)) ∙ g))
+      at false e true g h = h ∙ sym (ap (λ b. cond b (x ∷ filter (heads_it n) class) (filter (heads_it n) class)) e)
+      at false e false g h = h
 
-  pub by_rank_ready : (k : ℕ) → AreReady [] (by_rank rules k)
-  by_rank_ready zero = tt
-  by_rank_ready (suc k) = ready_more [] (by_rank rules k) (filter (has_rank rules (suc k)) rules) (by_rank_ready k)
-      (rank_ready k (by_rank rules k) (filter (has_rank rules (suc k)) rules) (λ m l. all_done m k l)
-      (Each-filter_passes IsAbove (has_rank rules (suc k)) rules (ranks_fall [] rules refl)))
+  -- none of a name of lower rank
+  none_of : (n : NameArity) (xs : List A) → All (λ x. Fits x × (rank_of rules n < key x)) xs → filter (has_head n) (map plain xs) ≡ []
+  none_of n [] a = refl
+  none_of n (x ∷ xs) a = at (heads_it n x) refl (none_of n xs (All-tail (λ x. Fits x × (rank_of rules n < key x)) x xs a))
+    where
+      at : (b : Bool) → heads_it n x ≡ b → filter (has_head n) (map plain xs) ≡ []
+          → cond b (plain x ∷ filter (has_head n) (map plain xs)) (filter (has_head n) (map plain xs)) ≡ []
+      at true e h = let p = All-head (λ x. Fits x × (rank_of rules n < key x)) x xs a in let same = key_of_name n x p.0 e in absurd (omega (arith, p.1, same))
+      at false e h = h
+
+  sorted_ready : (done : List PlainRule) (xs : List A) → IsNonDecreasingBy key xs → All Fits xs
+      → ((m : NameArity) → rank_of rules m ≤ most → filter (has_head m) (done ++ map plain xs) ≡ filter (has_head m) rules)
+      → AreReady rules done (map plain xs)
+  sorted_ready done [] s a h = tt
+  sorted_ready done (x ∷ xs) s a h = (
+    own,
+    sorted_ready (done ++ plain x ∷ []) xs (λ i j d l m. s (suc i) (suc j) d (omega (arith, l)) (omega (arith, m))) (All-tail Fits x xs a)
+        (λ m l. ap (filter (has_head m)) (append_assoc done (plain x ∷ []) (map plain xs)) ∙ h m l),
+  )
+    where
+      own : (m : NameArity) → has name_cmp m (body_names (plain x).body) ≡ true → filter (has_head m) done ≡ filter (has_head m) rules
+      own m e =
+          let fits = All-head Fits x xs a in
+          let less = fits.2 m e in
+          let later : All (λ y. Fits y × (rank_of rules m < key y)) (x ∷ xs) = λ k d l. (a k d l, (let above = s 0 k d (omega arith) l in omega (arith, less, above, fits.0))) in
+          sym (append-nil (filter (has_head m) done))
+          ∙ ap (λ l. filter (has_head m) done ++ l) (sym (none_of m (x ∷ xs) later))
+          ∙ sym (filter-append (has_head m) done (map plain (x ∷ xs)))
+          ∙ h m (omega (arith, less, fits.0, fits.1))
+
+  abbrev pairs : List A → List (PlainRule × ℕ)
+  pairs xs = map (λ x. (plain x, key x)) xs
+
+  abbrev low : List PlainRule
+  low = filter (is_within rules most) rules
+
+  all_fit : (xs : List A) → Each PairFits (pairs xs) → All Fits xs
+  all_fit [] e = All-nil Fits
+  all_fit (x ∷ xs) e = All-cons Fits x xs e.0 (all_fit xs e.1)
+
+  low_fit : Each PairFits (map (ranked_by rules) low)
+  low_fit = Each-map (λ r. IsAbove rules r × (is_within rules most r ≡ true)) PairFits (ranked_by rules)
+      (λ r h. (refl, leb-true (rank_of rules (head_name r)) most h.1, h.0)) low
+      (Each-filter_passes (IsAbove rules) (is_within rules most) rules (ranks_fall rules ranking [] rules refl))
+
+  firsts : (xs : List A) → map (λ p. p.0) (pairs xs) ≡ map plain xs
+  firsts [] = refl
+  firsts (x ∷ xs) = ap (λ l. plain x ∷ l) (firsts xs)
+
+  first_of_ranked : (rs : List PlainRule) → map (λ p. p.0) (map (ranked_by rules) rs) ≡ rs
+  first_of_ranked [] = refl
+  first_of_ranked (r ∷ rs) = ap (λ l. r ∷ l) (first_of_ranked rs)
+
+  all_low : (n : NameArity) → rank_of rules n ≤ most → filter (has_head n) low ≡ filter (has_head n) rules
+  all_low n h =
+      filter-filter (has_head n) (is_within rules most) rules
+      ∙ filter_agree_on (is_within rules most) (λ _. true) (has_head n) (λ r e. ap (λ m. nat_le (rank_of rules m) most) (sym (same_names n (head_name r) (head_ties n r e))) ∙ le-leb (rank_of rules n) most h) rules
+      ∙ constant true (filter (has_head n) rules)
+
+  -- rules with their ranks, sorted by these, are in order
+  pub sorted_in_order : (xs ys : List A) → pairs xs ≡ map (ranked_by rules) low → IsPermutation xs ys → IsNonDecreasingBy key ys
+      → ((d : ℕ) → filter (λ x. key x == d) ys ≡ filter (λ x. key x == d) xs) → IsOrdered rules most (map plain ys)
+  sorted_in_order xs ys e p s classes = record { whole = whole; ready = sorted_ready [] ys s (All-permutation Fits xs ys p fit) whole }
+    where
+      fit : All Fits xs
+      fit = all_fit xs (subst (Each PairFits) (sym e) low_fit)
+
+      whole : (n : NameArity) → rank_of rules n ≤ most → filter (has_head n) (map plain ys) ≡ filter (has_head n) rules
+      whole n h =
+          filter_map (has_head n) plain ys
+          ∙ ap (map plain) (own_class n ys (All-permutation Fits xs ys p fit) ∙ ap (filter (heads_it n)) (classes (rank_of rules n)) ∙ sym (own_class n xs fit))
+          ∙ sym (filter_map (has_head n) plain xs)
+          ∙ ap (filter (has_head n)) (sym (firsts xs) ∙ ap (map (λ p. p.0)) e ∙ first_of_ranked low)
+          ∙ all_low n h
+
+-- what a stable sort by rank leaves of each rank
+tied : (a b : ℕ) → (not (is_lt (nat_cmp a b)) && not (is_lt (nat_cmp b a))) ≡ (b == a)
+tied a b = at (nat_cmp a b) (ranks a b) (nat_cmp b a) (ranks b a)
+  where
+    at : (c : Ordering) → MatchOrdering c (a < b) (a ≡ b) (b < a) → (d : Ordering) → MatchOrdering d (b < a) (b ≡ a) (a < b)
+        → (not (is_lt c) && not (is_lt d)) ≡ (b == a)
+    at Less m d n = sym (ne_eqb b a (λ e. omega (arith, m, e)))
+    at Equal m Less n = absurd (omega (arith, m, n))
+    at Equal m Equal n = sym (eq-eqb b a n)
+    at Equal m Greater n = absurd (omega (arith, m, n))
+    at Greater m Less n = sym (ne_eqb b a (λ e. omega (arith, n, e)))
+    at Greater m Equal n = absurd (omega (arith, m, n))
+    at Greater m Greater n = absurd (omega (arith, m, n))
+
+pub same_classes : (xs ys : List Ranked) → length ys ≡ length xs → IsStableByKey (λ r. r.rank) nat_cmp xs ys
+    → (d : ℕ) → filter (λ r. r.rank == d) ys ≡ filter (λ r. r.rank == d) xs
+same_classes [] [] l stable d = refl
+same_classes [] (y ∷ ys) l stable d = absurd (omega (arith, l))
+same_classes (x ∷ xs) ys l stable d =
+    filter_agree (λ r. r.rank == d) (ties lt own) (λ r. sym (tied d r.rank)) ys ∙ stable own ∙ filter_agree (ties lt own) (λ r. r.rank == d) (λ r. tied d r.rank) (x ∷ xs)
+  where
+    own : Ranked
+    own = record x { rank = d }
+
+    lt : Ranked → Ranked → Bool
+    lt r s = is_lt (nat_cmp r.rank s.rank)
 
 -- ---- what stands
 
@@ -252,7 +342,7 @@ each_most rank k (n ∷ names) h = (omega (arith, h), each_most rank k names (om
 pub found_is_standing : (statements : List PlainStatement) (events : List Event) (words : Words) (ordered : List PlainRule)
     → IsRanking (rules_of statements) (rank_of (rules_of statements))
     → ((word : List ℕ) → words word ≡ [])
-    → ordered ≡ by_rank (rules_of statements) (greatest (map (rank_of (rules_of statements)) (outputs statements)))
+    → IsOrdered (rules_of statements) (greatest (map (rank_of (rules_of statements)) (outputs statements))) ordered
     → canon detection_cmp (flat_map (λ n. of_name n (with_rules (with_all words (map as_detection events)) ordered n.name)) (outputs statements)) ≡ standing statements events
 unfolding standing
 found_is_standing statements events words ordered ranking none o =
@@ -270,24 +360,5 @@ found_is_standing statements events words ordered ranking none o =
 
     complete : (n : NameArity) → rank_of rules n ≤ k → named_by end n ≡ name_rows rules events n
     complete n h = done_full rules events ranking end ordered
-        (all_rules rules events ranking (with_all words (map as_detection events)) [] ordered (no_rules rules events ranking words none)
-        (subst (AreReady rules events ranking []) (sym o) (by_rank_ready rules events ranking k)))
-        n (ap (filter (has_head n)) o ∙ all_done rules events ranking n k h)
-
--- ---- rules with their ranks
-
-ranked_are : (rules : List PlainRule) (d : ℕ) (rs : List PlainRule) → of_rank d (map (ranked_by rules) rs) ≡ filter (has_rank rules d) rs
-ranked_are rules d [] = refl
-ranked_are rules d (r ∷ rs) = at (has_rank rules d r) (ranked_are rules d rs)
-  where
-    at : (b : Bool) → of_rank d (map (ranked_by rules) rs) ≡ filter (has_rank rules d) rs
-        → map (λ p. p.0) (cond b (ranked_by rules r ∷ filter (λ p. p.1 == d) (map (ranked_by rules) rs)) (filter (λ p. p.1 == d) (map (ranked_by rules) rs)))
-        ≡ cond b (r ∷ filter (has_rank rules d) rs) (filter (has_rank rules d) rs)
-    at true h = ap (λ l. r ∷ l) h
-    at false h = h
-
--- one rank more
-pub next_rank : (rules : List PlainRule) (d : ℕ) (ordered : List PlainRule) (ranked : List (PlainRule × ℕ)) → ordered ≡ by_rank rules d ++ of_rank (d + 1) ranked
-    → ranked ≡ map (ranked_by rules) rules → ordered ≡ by_rank rules (d + 1)
-next_rank rules d ordered ranked e f =
-    e ∙ ap (λ l. by_rank rules d ++ of_rank (d + 1) l) f ∙ ap (λ l. by_rank rules d ++ l) (ranked_are rules (d + 1) rules) ∙ rw add-one refl
+        (all_rules rules events ranking (with_all words (map as_detection events)) [] ordered (no_rules rules events ranking words none) o.ready)
+        n (o.whole n h)

@@ -4,7 +4,7 @@ use Rattle.std.specs.List.{list_all}
 use Rattle.ordered_lists.specs.Lists.{Each}
 use Rattle.event_model.specs.declared.operators.Op.TheVariants.{Seq}
 use Rattle.event_model.specs.declared.atoms.NameArity.{NameArity}
-use Rattle.ev_bind.specs.Bindings.{Pairs, value_at}
+use Rattle.ev_bind.specs.Bindings.{value_at}
 use Rattle.ev_bind.specs.declared.rows.Row.{Row}
 use Rattle.rule_ast.specs.Trees.{PlainPattern, Atom, Both, Either, Where, Exact, Within, Not, PlainRule}
 use Rattle.rule_ast.specs.Vars.{vars, is_in}

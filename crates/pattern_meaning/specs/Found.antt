@@ -1,5 +1,5 @@
 -- What the plain evaluator of rules finds: detections, by the words of their atoms.
-use Rattle.std.specs.Prelude.{ℕ, zero, suc, ◌==◌, Bool, cond, Some, List, [], ◌∷◌, ◌++◌, map}
+use Rattle.std.specs.Prelude.{ℕ, ◌≡◌, ◌≤◌, nat_le, Bool, true, cond, Some, List, [], ◌∷◌, ◌++◌, map}
 use Rattle.std.specs.List.{filter}
 use Rattle.std.specs.Str.{bytes_eq}
 use Rattle.ordered_lists.specs.Lists.{some_of}
@@ -11,10 +11,12 @@ use Rattle.event_model.specs.declared.events.Detection.{Detection}
 use Rattle.ev_bind.specs.Matching.{match_of, instance}
 use Rattle.ev_bind.specs.declared.rows.Row.{Row}
 use Rattle.rule_ast.specs.Trees.{PlainRule}
-use Rattle.rule_check.specs.Names.{head_name}
+use Rattle.ordered_lists.specs.Canon.{has}
+use Rattle.event_model.specs.EventOrder.{name_cmp}
+use Rattle.rule_check.specs.Names.{head_name, body_names}
 use Rattle.rule_check.specs.Cycles.{rank_of}
 use Rattle.pattern_meaning.specs.PatternRows.{rows_of, spanned, found, is_of}
-use Rattle.pattern_meaning.specs.RuleRows.{rows}
+use Rattle.pattern_meaning.specs.RuleRows.{rows, has_head}
 
 -- ---- detections of a name
 
@@ -68,10 +70,18 @@ with_rules words (r ∷ rules) = with_rules (with_all words (rule_detections wor
 
 -- ---- the order of rules
 
-abbrev pub has_rank : List PlainRule → ℕ → PlainRule → Bool
-has_rank rules rank r = rank_of rules (head_name r) == rank
+-- its head has at most this rank
+abbrev pub is_within : List PlainRule → ℕ → PlainRule → Bool
+is_within rules most r = nat_le (rank_of rules (head_name r)) most
 
--- those of which the head has at most this rank, by rank
-abbrev pub by_rank : List PlainRule → ℕ → List PlainRule
-by_rank rules zero = []
-by_rank rules (suc k) = by_rank rules k ++ filter (has_rank rules (suc k)) rules
+-- after these rules, each of the rest comes when all rules of the names in its body have come
+abbrev pub AreReady : List PlainRule → (done rest : List PlainRule) → Type 0
+AreReady rules done [] = Unit {0}
+AreReady rules done (r ∷ rest) =
+    ((m : NameArity) → has name_cmp m (body_names r.body) ≡ true → filter (has_head m) done ≡ filter (has_head m) rules)
+    × AreReady rules (done ++ r ∷ []) rest
+
+-- all rules of the names of at most this rank, each after those of the names in its body
+pub record IsOrdered (rules : List PlainRule) (most : ℕ) (ordered : List PlainRule) : Type 0 where
+  pub whole : (n : NameArity) → rank_of rules n ≤ most → filter (has_head n) ordered ≡ filter (has_head n) rules
+  pub ready : AreReady rules [] ordered

@@ -7,7 +7,7 @@ use Rattle.std.proofs.lemmas.List.Concat.{flat_map-append}
 use Rattle.ordered_lists.specs.Canon.{canon, has, Rising, Rising-canon, has-canon, has-append, canon_one}
 use Rattle.ordered_lists.specs.Members.{without, has-without}
 use Rattle.event_model.specs.EventOrder.{event_cmp, detection_cmp, exact_detections}
-use Rattle.event_model.specs.Presence.{History, Said, Verdict, Accepted, Refused, verdict, after_verdict, settled, in_batch, with_input, extended, settles, added, taken, occurrences, present}
+use Rattle.event_model.specs.Presence.{History, Said, Verdict, Accepted, Refused, verdict, after_verdict, settled, in_batch, extended, added, taken, occurrences, present}
 use Rattle.event_model.specs.declared.inputs.Input.{Input}
 use Rattle.event_model.specs.declared.inputs.Input.TheVariants.{Add, Take, Advance, Nothing, Begin, Commit}
 use Rattle.event_model.specs.declared.atoms.NameArity.{NameArity}

@@ -6,7 +6,7 @@ use Rattle.ordered_lists.specs.Members.{without}
 use Rattle.event_model.specs.Bytes.{feed, space, plus, minus}
 use Rattle.event_model.specs.EventOrder.{detection_cmp}
 use Rattle.event_model.specs.Text.{atom_text}
-use Rattle.event_model.specs.Presence.{History, no_history, settled, settles, in_batch, extended, Said, Verdict, Accepted, Refused, verdict, after_verdict, present}
+use Rattle.event_model.specs.Presence.{History, no_history, settled, settles, extended, Said, Verdict, Accepted, Refused, verdict, after_verdict, present}
 use Rattle.event_model.specs.declared.inputs.Input.{Input}
 use Rattle.event_model.specs.declared.inputs.Input.TheVariants.{Nothing}
 use Rattle.event_model.specs.declared.inputs.Refusal.{Refusal}

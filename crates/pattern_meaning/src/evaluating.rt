@@ -10,7 +10,7 @@ ghost use Rattle.pattern_meaning.specs.RuleOrder.{rules_at};
 
 use crate::bodies::pattern_rows;
 use crate::found::Found;
-use crate::rule_order::rules_by_rank;
+use crate::rule_order::{Ranked, rules_by_rank};
 use ev_bind::{Row, instance_atom};
 use event_model::{Atom, Detection, Event, NameArity, PatAtom};
 use ordered_lists::sort_unique;
@@ -51,11 +51,11 @@ fn push_events(alloc: Global, events: &[Event], found: &mut Found) -> Result<(),
 }
 
 // What the rules give, each over what was found before it.
-fn push_rules(alloc: Global, rules: &[&Rule], found: &mut Found) -> Result<(), AllocError>
+fn push_rules(alloc: Global, rules: &[Ranked], found: &mut Found) -> Result<(), AllocError>
     ensures { OnOk result (words_of found.new ≡ with_rules (words_of found.old) (rules_at rules.now)) }
 {
-    for rule in rules {
-        push_rule(alloc, rule, found)?;
+    for ranked in rules {
+        push_rule(alloc, ranked.rule, found)?;
     }
     Ok(())
 }

@@ -18,4 +18,4 @@ returns c =
     c.in_ok-sort_unique.ensures.ok
     ∙ ap (canon detection_cmp) (c.in_ok-shown.ensures ∙ (λ i. flat_map (λ n. of_name n (end i n.name)) (c.shown.ensures i)))
     ∙ found_is_standing (plain_rules c.args.checked.now) c.args.events.now (words_of c.new-found.result) (rules_at c.in_ok-rules.rules.items)
-    c.rules_by_rank.ensures.ranking c.new-found.ensures c.in_ok-rules.ensures.order
+    c.rules_by_rank.ensures.ranking c.new-found.ensures c.in_ok-rules.ensures.ordered
