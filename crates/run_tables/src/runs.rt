@@ -281,7 +281,10 @@ fn a_rule_file_is_too_long(rt: HostRuntime) -> Result<(), Fail> {
     let ran = run_over(rt.alloc(), &["run", "r"], &file, b"+ 1 a(7)\n", CALM)?;
     assert_eq!(rt; ran.status, Status::RulesRefused);
     assert_eq!(rt; ran.out.bytes(), b"".as_slice());
-    assert_eq!(rt; ran.notes.bytes(), b"etalis: rules: over 1048576 bytes\n".as_slice());
+    assert_eq!(rt;
+        ran.notes.bytes(),
+        b"etalis: rules: over 1048576 bytes\n".as_slice()
+    );
     Ok(())
 }
 
