@@ -1,5 +1,5 @@
 -- What an engine stands for and works from, from input to input.
-use Rattle.std.proofs.Common.{◌≡◌, ℕ, Option, Bool, true, false, not, refl, sym, ap, ◌∙◌, subst, inl, inr}
+use Rattle.std.proofs.Common.{◌≡◌, ℕ, Option, Bool, true, false, not, sym, ap, ◌∙◌, subst, inl, inr}
 use Rattle.std.specs.Prelude.{◌⊎◌}
 use Rattle.std.proofs.Math.Bool.{not-not}
 use Rattle.std.proofs.lemmas.Bool.{true≢false}

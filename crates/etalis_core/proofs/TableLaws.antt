@@ -1,5 +1,5 @@
 -- What stands is in order, and differs in nothing from itself.
-use Rattle.std.proofs.Common.{◌≡◌, Bool, true, false, not, ◌&&◌, List, [], refl, sym, ◌∙◌, subst, map}
+use Rattle.std.proofs.Common.{◌≡◌, true, not, List, [], sym, ◌∙◌, subst, map}
 use Rattle.std.specs.List.{flat_map}
 use Rattle.std.specs.declared.cmp.Ordering.{Ordering}
 use Rattle.std.proofs.Math.Bool.{and-not_self}
