@@ -1,0 +1,26 @@
+-- A change of values alone keeps the table; a value names its row and step.
+use Rattle.std.proofs.Common.{ℕ, ◌≡◌, ◌==◌, ◌⊎◌, Some, sym, ◌∙◌}
+use Rattle.std.specs.HashMap.{HashMap}
+use Rattle.std.specs.HashMap as by_hash
+use Rattle.std.specs.BTreeMap.{BTreeMap}
+use Rattle.std.specs.BTreeMap as by_order
+use Rattle.std.specs.declared.cmp.Ordering.{Ordering}
+use Rattle.slab.specs.Slab.{Slab}
+use Rattle.row_table.specs.Tables.{key_of, IsTable}
+use Rattle.row_table.specs.declared.keys.Entry.{Entry}
+
+module _ {K V S : Type 0} (code : K → ℕ) (cmp : K → K → Ordering) (firsts : HashMap ℕ ℕ S) (rest : BTreeMap K ℕ) where
+  pub table_kept : (s t : Slab (Entry K V)) → IsTable code cmp s firsts rest → ((m : ℕ) → key_of t m ≡ key_of s m) → IsTable code cmp t firsts rest
+  table_kept s t old same = record { first = first; second = second; found = found; apart = old.apart; unique = unique }
+    where
+      first : (h n : ℕ) → by_hash.get ◌==◌ firsts h ≡ Some n → (k : K) × (key_of t n ≡ Some k) × (code k ≡ h)
+      first h n e = let f = old.first h n e in (f.0, same n ∙ f.1, f.2)
+
+      second : (k : K) (n : ℕ) → by_order.get cmp rest k ≡ Some n → key_of t n ≡ Some k
+      second k n e = same n ∙ old.second k n e
+
+      found : (n : ℕ) (k : K) → key_of t n ≡ Some k → (by_hash.get ◌==◌ firsts (code k) ≡ Some n) ⊎ (by_order.get cmp rest k ≡ Some n)
+      found n k e = old.found n k (sym (same n) ∙ e)
+
+      unique : (n m : ℕ) (k : K) → key_of t n ≡ Some k → key_of t m ≡ Some k → n ≡ m
+      unique n m k e f = old.unique n m k (sym (same n) ∙ e) (sym (same m) ∙ f)
