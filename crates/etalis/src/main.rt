@@ -1,7 +1,7 @@
 //! The program: the top call over standard input, output and error, and the files of the system.
 #![tactic(auto)]
 
-use etalis_cli::{Status, run};
+use etalis_cli::{Status, exit_code, run};
 use flow_ports::{FileShelf, FromReader, ToWriter, write_whole};
 use std::alloc::AllocError;
 use std::process::ExitCode;
@@ -44,5 +44,5 @@ fn main(rt: HostRuntime) -> ExitCode {
             Status::Memory
         }
     };
-    ExitCode::from(status as u8)
+    ExitCode::from(exit_code(status))
 }

@@ -1,10 +1,9 @@
-pub mod SessionLaws
 pub mod FeedLaws
+pub mod OutputLaws
+pub mod SessionLaws
 pub mod ServeLaws
-pub mod ShownLaws
 pub mod RuleLaws
-pub mod TopLaws
 pub mod NoteLaws
 pub mod WordLaws
-pub mod OutputLaws
 pub mod ReplyLaws
+pub mod TopLaws

@@ -14,9 +14,9 @@ use Rattle.rule_ast.specs.Shown.{shown_names}
 use Rattle.rule_check.specs.Verdict.{IsSound, IsRefusal}
 use Rattle.rule_check.specs.declared.faults.CheckFault.{CheckFault}
 use Rattle.rule_check.specs.declared.faults.CheckFault.TheVariants as check
-use Rattle.etalis_cli.specs.declared.refusals.Refusal.TheVariants as refusal
+use Rattle.etalis_cli.specs.declared.accepting.TheConstants.{MOST_FILE_BYTES}
+use Rattle.etalis_cli.specs.declared.refusals.FileRefusal.TheVariants as refusal
 use Rattle.etalis_cli.specs.Rules.{IsText, Accepted, HasNone, IsRefused}
-use Rattle.etalis_cli.proofs.ShownLaws.{few_shown}
 
 pub same_Some : {X : Type 0} (x y : X) → Some x ≡ Some y → x ≡ y
 same_Some x y e = cc
@@ -25,7 +25,7 @@ same_Some x y e = cc
 pub one_acceptance : (file : List ℕ) (rs others : List PlainStatement) → Accepted file rs → Accepted file others → rs ≡ others
 one_acceptance file rs others a b = one_meaning file rs others a.holds b.holds
 
-module _ (file text : List ℕ) (same : text ≡ file) (short : length file ≤ 1048576) (utf8 : IsUtf8 file) where
+module _ (file text : List ℕ) (same : text ≡ file) (short : length file ≤ MOST_FILE_BYTES) (utf8 : IsUtf8 file) where
   is_text : IsText file
   is_text = record { short = short; utf8 = utf8 }
 
@@ -63,5 +63,5 @@ module _ (file text : List ℕ) (same : text ≡ file) (short : length file ≤ 
     accepted sound = record { text = is_text; holds = held; sound = sound }
 
     -- the shown names can be numbered
-    pub few_names : length (shown_names (plain_rules r)) < 2 ^ 32
-    few_names = let few = few_shown file (plain_rules r) held in omega arith
+    pub few_names : length (shown_names (plain_rules r)) ≤ length text → length (shown_names (plain_rules r)) < 2 ^ 32
+    few_names few = omega (arith, few, ap length same)

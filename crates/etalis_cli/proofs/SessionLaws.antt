@@ -1,35 +1,76 @@
 -- A session from line to line.
-use Rattle.std.proofs.Common.{◌≡◌, ℕ, ◌+◌, ◌<◌, ◌≤◌, List, [], ◌∷◌, length, refl, sym, ap, ◌∙◌, subst, inl, arith, length-append}
-use Rattle.event_model.specs.Presence.{Verdict, Taken, Refused, verdict, after_verdict, Fails}
+use Rattle.std.proofs.Common.{◌≡◌, ℕ, ◌+◌, ◌<◌, ◌≤◌, Option, Some, None, List, [], ◌∷◌, ◌++◌, length, refl, sym, ap, ◌∙◌, subst, inl, arith, length-append, append-nil}
+use Rattle.std.proofs.lemmas.List.Concat.{flat_map-append}
+use Rattle.std.specs.List.{flat_map}
+use Rattle.event_model.specs.Presence.{History, Verdict, Accepted, Refused, verdict, after_verdict, extended, with_input, all_inputs, batch_inputs, Fails}
 use Rattle.event_model.specs.declared.inputs.Input.{Input}
-use Rattle.pattern_meaning.specs.Replies.{State, reply, reply_text}
+use Rattle.event_model.specs.declared.inputs.Input.TheVariants.{Add, Take, Advance, Nothing, Begin, Commit}
+use Rattle.event_model.specs.declared.inputs.TheConstants.{MOST_LINE_BYTES}
+use Rattle.pattern_meaning.specs.Replies.{Reply, reply, reply_text}
 use Rattle.event_reader.specs.Machine.{heard}
 use Rattle.event_reader.proofs.LineLaws.{heard_short}
 use Rattle.etalis_core.specs.StandsFor as core
 use Rattle.etalis_core.specs.StandsFor.{rules_of, late_of}
-use Rattle.etalis_cli.specs.Output.{after_line, reply_to}
+use Rattle.etalis_cli.specs.Output.{Talk, voiced, after_line, reply_to}
 use Rattle.etalis_cli.specs.StandsFor.{StandsFor}
+use Rattle.etalis_cli.specs.declared.voices.Voice.{Voice}
+use Rattle.etalis_cli.specs.declared.voices.Voice.TheVariants.{Replies}
 use Rattle.etalis_cli.specs.declared.session.Session.{Session}
 
+-- ---- each voice writes replies
+
+voiced_is : (v : Voice) (r : Reply) → reply_text r ≡ voiced v r
+voiced_is Replies r = refl
+
 -- the reply to a line, in the session's words
-pub told : (a : Session) (s : State) (line : List ℕ) → StandsFor a s → reply_text (reply (rules_of a.engine) s.history (a.count + 1) (verdict (late_of a.engine) s.history (heard line))) ≡ reply_to s line
+pub told : (a : Session) (t : Talk) (line : List ℕ) → StandsFor a t
+    → reply_text (reply (rules_of a.engine) t.state.history (a.count + 1) (verdict (late_of a.engine) t.state.history (heard line))) ≡ reply_to t line
 unfolding reply_to
-told a s line p = λ i. reply_text (reply (sym p.same_rules i) s.history (sym p.same_count i + 1) (verdict (sym p.same_late i) s.history (heard line)))
+told a t line p =
+    (λ i. reply_text (reply (sym p.same_rules i) t.state.history (sym p.same_count i + 1) (verdict (sym p.same_late i) t.state.history (heard line))))
+    ∙ voiced_is t.voice _
 
-few_after : (history : List Input) (v : Verdict) (n : ℕ) → length history ≤ n → length (after_verdict history v) ≤ n + 1
-few_after history (Taken input) n h = omega (arith, h, length-append history (input ∷ []))
-few_after history (Refused why) n h = omega (arith, h)
+-- ---- no line is more than one input
 
-pub stands_after : (a b : Session) (s : State) (line : List ℕ) → StandsFor a s → rules_of b.engine ≡ rules_of a.engine → late_of b.engine ≡ late_of a.engine → b.count ≡ a.count + 1
-    → core.StandsFor b.engine (after_verdict s.history (verdict (late_of a.engine) s.history (heard line))) → StandsFor b (after_line s line)
-stands_after a b s line p rules late count h = record {
+settled_more : (groups : List (List Input)) (group : List Input) → length (flat_map (λ g. g) (groups ++ group ∷ [])) ≡ length (flat_map (λ g. g) groups) + length group
+settled_more groups group =
+    ap length (flat_map-append (λ g. g) groups (group ∷ []) ∙ ap (λ l. flat_map (λ g. g) groups ++ l) (append-nil group))
+    ∙ length-append (flat_map (λ g. g) groups) group
+
+few_with : (groups : List (List Input)) (batch : Option (List Input)) (input : Input)
+    → length (all_inputs (with_input groups batch input)) ≤ length (all_inputs (record { groups = groups; batch = batch })) + 1
+few_with groups None input =
+    let more = settled_more groups (input ∷ []) in
+    omega (arith, length-append (flat_map (λ g. g) (groups ++ (input ∷ []) ∷ [])) [], length-append (flat_map (λ g. g) groups) [], more)
+few_with groups (Some group) input =
+    omega (arith, length-append (flat_map (λ g. g) groups) (group ++ input ∷ []), length-append (flat_map (λ g. g) groups) group, length-append group (input ∷ []))
+
+few_extended : (h : History) (input : Input) → length (all_inputs (extended h input)) ≤ length (all_inputs h) + 1
+few_extended h (Add e) = few_with h.groups h.batch (Add e)
+few_extended h (Take e) = few_with h.groups h.batch (Take e)
+few_extended h (Advance t) = few_with h.groups h.batch (Advance t)
+few_extended h Nothing = few_with h.groups h.batch Nothing
+few_extended h Begin = omega (arith, length-append (flat_map (λ g. g) h.groups) [], length-append (flat_map (λ g. g) h.groups) (batch_inputs h.batch))
+few_extended h Commit =
+    let more = settled_more h.groups (batch_inputs h.batch) in
+    omega (arith, length-append (flat_map (λ g. g) (h.groups ++ batch_inputs h.batch ∷ [])) [], length-append (flat_map (λ g. g) h.groups) (batch_inputs h.batch), more)
+
+few_after : (h : History) (v : Verdict) (n : ℕ) → length (all_inputs h) ≤ n → length (all_inputs (after_verdict h v)) ≤ n + 1
+few_after h (Accepted input) n few = omega (arith, few, few_extended h input)
+few_after h (Refused why) n few = omega (arith, few)
+
+pub stands_after : (a b : Session) (t : Talk) (line : List ℕ) → StandsFor a t → rules_of b.engine ≡ rules_of a.engine → late_of b.engine ≡ late_of a.engine
+    → b.voice ≡ a.voice → b.count ≡ a.count + 1
+    → core.StandsFor b.engine (after_verdict t.state.history (verdict (late_of a.engine) t.state.history (heard line))) → StandsFor b (after_line t line)
+stands_after a b t line p rules late voice count h = record {
   same_rules = p.same_rules ∙ sym rules;
   same_late = p.same_late ∙ sym late;
+  same_voice = p.same_voice ∙ sym voice;
   same_count = ap (λ n. n + 1) p.same_count ∙ sym count;
-  inputs = subst (λ l. core.StandsFor b.engine (after_verdict s.history (verdict l s.history (heard line)))) (sym p.same_late) h;
-  few = few_after s.history (verdict s.late s.history (heard line)) s.count p.few;
+  inputs = subst (λ l. core.StandsFor b.engine (after_verdict t.state.history (verdict l t.state.history (heard line)))) (sym p.same_late) h;
+  few = few_after t.state.history (verdict t.state.late t.state.history (heard line)) t.state.count p.few;
 }
 
--- a line that is too long says nothing from the place 65,536 on
-pub heard_long : (line : List ℕ) → 65536 < length line → heard line ≡ Fails 65536
-heard_long line long = heard_short line (Fails 65536) (inl (long, refl))
+-- a line that is too long says nothing from the place of the limit on
+pub heard_long : (line : List ℕ) → MOST_LINE_BYTES < length line → heard line ≡ Fails MOST_LINE_BYTES
+heard_long line long = heard_short line (Fails MOST_LINE_BYTES) (inl (long, refl))

@@ -1,18 +1,18 @@
--- What a run over the lines says of the output, where the source tells its bytes.
-use Rattle.std.proofs.Common.{◌≡◌, ℕ, ◌+◌, ◌-◌, ◌≤◌, ◌<◌, ◌^◌, List, [], ◌++◌, Option, Some, None, Result, Ok, Err, length, take, drop, refl, sym, ap, ◌∙◌, subst, arith, inl, inr, append-nil, length-append}
-use Rattle.std.specs.Prelude.{IfSome, ◌⊎◌}
+-- From how a run ends to what the top call says.
+use Rattle.std.proofs.Common.{◌≡◌, ◌≤◌, ◌<◌, ◌⊎◌, ℕ, ◌+◌, ◌-◌, List, [], ◌++◌, Option, Some, None, Result, Ok, Err, IfSome, length, take, drop, refl, sym, ap, ◌∙◌, subst, inl, inr, arith, append-nil, length-append}
 use Rattle.std.proofs.lemmas.List.{take-append-le, take_all, take-append-drop}
 use Rattle.std.specs.Io.KnownBytes.{append_known}
-use Rattle.flow_ports.specs.Flow.{Gives}
-use Rattle.flow_ports.proofs.FlowLemmas.{append_known-nil}
+use Rattle.flow_ports.specs.Flow.{Rose, Takes, Gives}
+use Rattle.flow_ports.proofs.FlowLemmas.{append_known-nil, prepend_known-nil}
 use Rattle.event_model.specs.Lines.{ended}
 use Rattle.rule_ast.specs.Trees.{PlainStatement}
 use Rattle.etalis_cli.specs.Output.{Setting, start, replies, out_text}
-use Rattle.etalis_cli.specs.Outcome.{Served, Ends}
+use Rattle.etalis_cli.specs.Outcome.{Served}
 use Rattle.etalis_cli.specs.Words.{PlainJob}
 use Rattle.etalis_cli.specs.Rules.{Accepted, IsAccepted, IsRefused, HasNone}
-use Rattle.etalis_cli.specs.declared.refusals.Refusal.{Refusal}
-use Rattle.etalis_cli.specs.Run.{PartFor, OnRules, file_of, late_of, cause_of, status_of, IsServeCause, IsComplete}
+use Rattle.etalis_cli.specs.declared.refusals.FileRefusal.{FileRefusal}
+use Rattle.etalis_cli.specs.Run.{PartFor, OnRules, OnTaken, file_of, setting_for, cause_of, status_of, WasServed, Counts, Untouched, WhyNoRules, ServedBy, RunEnds, RunEnds.OutOfForm, RunEnds.NoRules, RunEnds.OverLines, IsComplete}
+use Rattle.etalis_cli.specs.declared.serving.TheConstants.{INPUT_LIMIT, MOST_PIECE_BYTES}
 use Rattle.etalis_cli.specs.declared.serving.ServeFault.{ServeFault}
 use Rattle.etalis_cli.specs.declared.serving.ServeFault.TheVariants as fault
 use Rattle.etalis_cli.specs.declared.status.Status.{Status}
@@ -22,6 +22,8 @@ use Rattle.etalis_cli.specs.declared.status.Cause.TheVariants.{Done, Usage, Rule
 use Rattle.etalis_cli.proofs.RuleLaws.{same_Some, one_acceptance}
 use Rattle.etalis_cli.proofs.ServeLaws.{out_begins, replies_shorter}
 
+-- ---- what is taken and written
+
 module _ (w : Setting) where
   -- the replies to the lines of a first part are no longer than those to all
   shorter : (m : ℕ) (xs : List ℕ) → length (replies (start w) (ended (take m xs))) ≤ length (replies (start w) (ended xs))
@@ -29,7 +31,7 @@ module _ (w : Setting) where
 
   -- a first part of what is written, with enough replies
   sent_whole : (got got' : Option (List ℕ)) (done ys : List ℕ) → Gives got got' (replies (start w) (ended done))
-      → (n : ℕ) × Gives got got' (take n (out_text w (done ++ ys))) × (length (replies (start w) (ended (take (length done - 8192) done))) ≤ n)
+      → (n : ℕ) × Gives got got' (take n (out_text w (done ++ ys))) × (length (replies (start w) (ended (take (length done - MOST_PIECE_BYTES) done))) ≤ n)
   sent_whole got got' done ys sent =
       let (t, begins) = out_begins w done ys in
       let all : List ℕ = replies (start w) (ended done) in
@@ -37,17 +39,17 @@ module _ (w : Setting) where
       (length all, sent ∙ ap (append_known got) (sym (take_all (length all) all le) ∙ sym (take-append-le (length all) all t le) ∙ ap (take (length all)) (sym begins)), shorter _ done)
 
   sent_all : (got got' : Option (List ℕ)) (done ys : List ℕ) → ys ≡ [] → Gives got got' (out_text w done)
-      → (n : ℕ) × Gives got got' (take n (out_text w (done ++ ys))) × (length (replies (start w) (ended (take (length done - 8192) done))) ≤ n)
+      → (n : ℕ) × Gives got got' (take n (out_text w (done ++ ys))) × (length (replies (start w) (ended (take (length done - MOST_PIECE_BYTES) done))) ≤ n)
   sent_all got got' done ys end sent =
       let whole : done ++ ys ≡ done = ap (λ x. done ++ x) end ∙ append-nil done in
       let (t, begins) = out_begins w done [] in
       let all : List ℕ = out_text w done in
       let le : length all ≤ length all = omega arith in
       let len : length all ≡ length (replies (start w) (ended done)) + length t = ap length (ap (out_text w) (sym (append-nil done)) ∙ begins) ∙ length-append (replies (start w) (ended done)) t in
-      (length all, sent ∙ ap (append_known got) (sym (take_all (length all) all le) ∙ ap (λ x. take (length all) (out_text w x)) (sym whole)), omega (arith, shorter (length done - 8192) done, len))
+      (length all, sent ∙ ap (append_known got) (sym (take_all (length all) all le) ∙ ap (λ x. take (length all) (out_text w x)) (sym whole)), omega (arith, shorter (length done - MOST_PIECE_BYTES) done, len))
 
   sent_part : (r : Result (Unit {0}) ServeFault) (left got got' : Option (List ℕ)) (rose : Type 0) (done ys : List ℕ) → Served w r left (Some ys) got got' rose done
-      → (n : ℕ) × Gives got got' (take n (out_text w (done ++ ys))) × (length (replies (start w) (ended (take (length done - 8192) done))) ≤ n)
+      → (n : ℕ) × Gives got got' (take n (out_text w (done ++ ys))) × (length (replies (start w) (ended (take (length done - MOST_PIECE_BYTES) done))) ≤ n)
   sent_part (Ok x) left got got' rose done ys s = sent_all got got' done ys s.ends.1 s.ends.2
   sent_part (Err fault.Read) left got got' rose done ys s = sent_whole got got' done ys s.ends.1
   sent_part (Err fault.Write) left got got' rose done ys s = s.ends.1.part
@@ -55,11 +57,11 @@ module _ (w : Setting) where
   sent_part (Err fault.TooLong) left got got' rose done ys s = s.ends.1.part
 
   -- the bytes that were taken, from those that are told
-  taken_is : (xs ys done : List ℕ) → xs ≡ done ++ ys → (length xs - length ys ≡ length done) × (take (length done - 8192) xs ≡ take (length done - 8192) done)
+  taken_is : (xs ys done : List ℕ) → xs ≡ done ++ ys → (length xs - length ys ≡ length done) × (take (length done - MOST_PIECE_BYTES) xs ≡ take (length done - MOST_PIECE_BYTES) done)
   taken_is xs ys done e =
       let len : length xs ≡ length done + length ys = ap length e ∙ length-append done ys in
-      let le : length done - 8192 ≤ length done = omega arith in
-      (omega (arith, len), ap (take (length done - 8192)) e ∙ take-append-le (length done - 8192) done ys le)
+      let le : length done - MOST_PIECE_BYTES ≤ length done = omega arith in
+      (omega (arith, len), ap (take (length done - MOST_PIECE_BYTES)) e ∙ take-append-le (length done - MOST_PIECE_BYTES) done ys le)
 
   pub part_for : (r : Result (Unit {0}) ServeFault) (left left' got got' : Option (List ℕ)) (rose : Type 0) (done : List ℕ) → Served w r left left' got got' rose done → PartFor w left left' got got'
   part_for r None left' got got' rose done s = tt
@@ -70,120 +72,197 @@ module _ (w : Setting) where
       let (n, sent, enough) = sent_part r (Some xs) got got' rose done ys s in
       (n, sent ∙ ap (λ x. append_known got (take n (out_text w x))) (sym e), rw (count, front) enough)
 
-  -- a run that ended at the limit had that many bytes before it
-  pub long_input : (r : Result (Unit {0}) ServeFault) (left left' got got' : Option (List ℕ)) (rose : Type 0) (done : List ℕ) → Served w r left left' got got' rose done → r ≡ Err fault.TooLong → IfSome left (λ bytes. 2 ^ 60 ≤ length bytes)
-  long_input r None left' got got' rose done s e = tt
-  long_input r (Some xs) None got got' rose done s e = absurd (let f = s.takes in cc)
-  long_input r (Some xs) (Some ys) got got' rose done s e =
-      let long : 2 ^ 60 ≤ length done = (subst (λ x. Ends w x (Some ys) got got' rose done) e s.ends).0 in
-      let whole : xs ≡ done ++ ys = same_Some _ _ s.takes in
-      omega (arith, long, ap length whole, length-append done ys)
+  -- a run that was done wrote all
+  done_text : (x : Unit {0}) (left left' got got' : Option (List ℕ)) (rose : Type 0) (taken : List ℕ) → Served w (Ok x) left left' got got' rose taken
+      → IfSome left (λ bytes. Gives got got' (out_text w bytes))
+  done_text x None left' got got' rose taken s = tt
+  done_text x (Some xs) None got got' rose taken s = absurd (let f = s.takes in cc)
+  done_text x (Some xs) (Some ys) got got' rose taken s =
+      let e : xs ≡ taken ++ ys = same_Some _ _ s.takes in
+      let all : taken ≡ xs = sym (e ∙ ap (λ y. taken ++ y) s.ends.1 ∙ append-nil taken) in
+      subst (λ y. Gives got got' (out_text w y)) all s.ends.2
 
--- ---- the rules of the file
+-- a first part of the bytes is as long as they are without the others
+taken_front : (xs ys taken : List ℕ) → xs ≡ taken ++ ys → taken ≡ take (length xs - length ys) xs
+taken_front xs ys taken e =
+    let len : length xs - length ys ≡ length taken = omega (arith, ap length e, length-append taken ys) in
+    let le : length taken ≤ length taken = omega arith in
+    let front : take (length taken) (taken ++ ys) ≡ taken = take-append-le (length taken) taken ys le ∙ take_all (length taken) taken le in
+    sym (ap (λ n. take n xs) len ∙ ap (take (length taken)) e ∙ front)
 
-on_rules : (file : Option (List ℕ)) (late : Option ℕ) (rs : List PlainStatement) (P : Setting → Type 0) → IfSome file (λ f. Accepted f rs) → P (record { rules = rs; late = late }) → OnRules file late P
-on_rules None late rs P accepted p = tt
-on_rules (Some f) late rs P accepted p = λ other a. subst (λ r. P (record { rules = r; late = late })) (one_acceptance f rs other accepted a) p
+on_taken : (left left' : Option (List ℕ)) (taken : List ℕ) (P : List ℕ → Type 0) → Takes left left' taken → P taken → OnTaken left left' P
+on_taken None left' taken P t p = tt
+on_taken (Some xs) None taken P t p = tt
+on_taken (Some xs) (Some ys) taken P t p = subst P (taken_front xs ys taken (same_Some _ _ t)) p
 
-any_rules : (file : Option (List ℕ)) (late : Option ℕ) (P : Setting → Type 0) → ((w : Setting) → P w) → OnRules file late P
-any_rules None late P p = tt
-any_rules (Some f) late P p = λ rs accepted. p (record { rules = rs; late = late })
+-- a run that ended at the limit had that many bytes before it
+long_input : (left left' : Option (List ℕ)) (taken : List ℕ) → Takes left left' taken → INPUT_LIMIT ≤ length taken → IfSome left (λ bytes. INPUT_LIMIT ≤ length bytes)
+long_input None left' taken t long = tt
+long_input (Some xs) None taken t long = absurd (let f = t in cc)
+long_input (Some xs) (Some ys) taken t long =
+    let whole : xs ≡ taken ++ ys = same_Some _ _ t in
+    omega (arith, long, ap length whole, length-append taken ys)
 
--- what holds of the rules that were read, under the job's name
-pub on_read : (asked : Option PlainJob) (job : PlainJob) (name : List ℕ) (holds : List ℕ → Option (List ℕ)) (rs : List PlainStatement) (P : Setting → Type 0) → asked ≡ Some job → name ≡ job.rules
-    → IfSome (holds name) (λ f. Accepted f rs) → P (record { rules = rs; late = job.late }) → OnRules (file_of asked holds) (late_of asked) P
-on_read asked job name holds rs P e same accepted p =
-    subst (λ o. OnRules (file_of o holds) (late_of o) P) (sym e) (on_rules (holds job.rules) job.late rs P (subst (λ n. IfSome (holds n) (λ f. Accepted f rs)) same accepted) p)
-
-pub long_on_read : (asked : Option PlainJob) (job : PlainJob) (name : List ℕ) (holds : List ℕ → Option (List ℕ)) (rs : List PlainStatement) (Q : Type 0) (P : Setting → Type 0) → asked ≡ Some job → name ≡ job.rules
-    → IfSome (holds name) (λ f. Accepted f rs) → Q ⊎ P (record { rules = rs; late = job.late }) → Q ⊎ OnRules (file_of asked holds) (late_of asked) P
-long_on_read asked job name holds rs Q P e same accepted (inl q) = inl q
-long_on_read asked job name holds rs Q P e same accepted (inr p) = inr (on_read asked job name holds rs P e same accepted p)
+-- nothing was taken
+none_taken : (left left' : Option (List ℕ)) → left' ≡ left → Takes left left' []
+none_taken left left' e = sym (prepend_known-nil left' ∙ e)
 
 -- nothing was taken, and nothing went out
 none_sent : (w : Setting) (left got : Option (List ℕ)) → PartFor w left left got got
 none_sent w None got = tt
 none_sent w (Some xs) got =
-    let none : length xs - length xs - 8192 ≡ 0 = omega arith in
+    let none : length xs - length xs - MOST_PIECE_BYTES ≡ 0 = omega arith in
     (0, sym (append_known-nil got), subst (λ n. length (replies (start w) (ended (take n xs))) ≤ 0) (sym none) (omega arith))
 
-pub none_for : (file : Option (List ℕ)) (late : Option ℕ) (left got : Option (List ℕ)) → OnRules file late (λ w. PartFor w left left got got)
-none_for file late left got = any_rules file late (λ w. PartFor w left left got got) (λ w. none_sent w left got)
+-- ---- the rules of the file
+
+on_rules : (job : PlainJob) (file : Option (List ℕ)) (rs : List PlainStatement) (P : Setting → Type 0) → IfSome file (λ f. Accepted f rs) → P (setting_for job rs)
+    → IfSome file (λ f. (rules : List PlainStatement) → Accepted f rules → P (setting_for job rules))
+on_rules job None rs P accepted p = tt
+on_rules job (Some f) rs P accepted p = λ other a. subst (λ r. P (setting_for job r)) (one_acceptance f rs other accepted a) p
+
+any_file : (job : PlainJob) (file : Option (List ℕ)) (P : Setting → Type 0) → ((w : Setting) → P w)
+    → IfSome file (λ f. (rules : List PlainStatement) → Accepted f rules → P (setting_for job rules))
+any_file job None P p = tt
+any_file job (Some f) P p = λ rs accepted. p (setting_for job rs)
+
+any_rules : (asked : Option PlainJob) (holds : List ℕ → Option (List ℕ)) (P : Setting → Type 0) → ((w : Setting) → P w) → OnRules asked holds P
+any_rules None holds P p = tt
+any_rules (Some job) holds P p = any_file job (holds job.rules) P p
 
 -- a file that was read and refused
-pub refused_read : (held : Option (List ℕ)) (bytes slice : List ℕ) → IfSome held (λ f. bytes ≡ f) → slice ≡ bytes → (cause : Refusal) → IsRefused slice cause × HasNone slice
+pub refused_read : (held : Option (List ℕ)) (bytes slice : List ℕ) → IfSome held (λ f. bytes ≡ f) → slice ≡ bytes → (cause : FileRefusal) → IsRefused slice cause × HasNone slice
     → IfSome held (λ f. IsRefused f cause × HasNone f)
 refused_read None bytes slice e f cause p = tt
 refused_read (Some file) bytes slice e f cause p = subst (λ x. IsRefused x cause × HasNone x) (f ∙ e) p
 
--- ---- the cause that a status tells
+-- ---- the causes and their statuses
 
-pub done_cause : (c : Cause) → status_of c ≡ status.Done → c ≡ Done
-done_cause Done e = refl
-done_cause Usage e = cc
-done_cause (RulesRefused r) e = cc
-done_cause RulesUnread e = cc
-done_cause InputUnread e = cc
-done_cause WriteFault e = cc
-done_cause Memory e = cc
-done_cause TooLong e = cc
+is_done : (r : Result (Unit {0}) ServeFault) → status_of (cause_of r) ≡ status.Done → r ≡ Ok tt
+is_done (Ok x) e = refl
+is_done (Err fault.Read) e = absurd (let f = e in cc)
+is_done (Err fault.Write) e = absurd (let f = e in cc)
+is_done (Err fault.Memory) e = absurd (let f = e in cc)
+is_done (Err fault.TooLong) e = absurd (let f = e in cc)
 
-pub unread_cause : (c : Cause) → IsServeCause c → status_of c ≡ status.ReadFault → c ≡ InputUnread
-unread_cause Done s e = cc
-unread_cause Usage s e = absurd s
-unread_cause (RulesRefused r) s e = absurd s
-unread_cause RulesUnread s e = absurd s
-unread_cause InputUnread s e = refl
-unread_cause WriteFault s e = cc
-unread_cause Memory s e = cc
-unread_cause TooLong s e = cc
+is_read : (r : Result (Unit {0}) ServeFault) → status_of (cause_of r) ≡ status.ReadFault → r ≡ Err fault.Read
+is_read (Ok x) e = absurd (let f = e in cc)
+is_read (Err fault.Read) e = refl
+is_read (Err fault.Write) e = absurd (let f = e in cc)
+is_read (Err fault.Memory) e = absurd (let f = e in cc)
+is_read (Err fault.TooLong) e = absurd (let f = e in cc)
 
-pub long_cause : (c : Cause) → status_of c ≡ status.TooLong → c ≡ TooLong
-long_cause Done e = cc
-long_cause Usage e = cc
-long_cause (RulesRefused r) e = cc
-long_cause RulesUnread e = cc
-long_cause InputUnread e = cc
-long_cause WriteFault e = cc
-long_cause Memory e = cc
-long_cause TooLong e = refl
+is_long : (r : Result (Unit {0}) ServeFault) → status_of (cause_of r) ≡ status.TooLong → r ≡ Err fault.TooLong
+is_long (Ok x) e = absurd (let f = e in cc)
+is_long (Err fault.Read) e = absurd (let f = e in cc)
+is_long (Err fault.Write) e = absurd (let f = e in cc)
+is_long (Err fault.Memory) e = absurd (let f = e in cc)
+is_long (Err fault.TooLong) e = refl
+
+-- ---- why no rules were read
+
+module _ (file : Option (List ℕ)) (a b : ℕ) where
+  why_unserved : (cause : Cause) → WhyNoRules file a b cause → WasServed (status_of cause) → ⊥
+  why_unserved Done w = absurd w
+  why_unserved Usage w = absurd w
+  why_unserved (RulesRefused r) w = λ s. s
+  why_unserved RulesUnread w = λ s. s
+  why_unserved InputUnread w = absurd w
+  why_unserved WriteFault w = absurd w
+  why_unserved Memory w = λ s. s
+  why_unserved TooLong w = absurd w
 
 -- ---- completeness
 
-neither : {A B : Type 0} → ¬ A → ¬ B → A ⊎ B → ⊥
-neither a b (inl p) = a p
-neither a b (inr p) = b p
+-- of a file and bytes that are told
+on_told : (file left : Option (List ℕ)) (s : Status) (shelf input out : Type 0)
+    → ((f bytes : List ℕ) → IsAccepted f → file ≡ Some f → left ≡ Some bytes → length bytes < INPUT_LIMIT → ¬ shelf → ¬ input → ¬ out → (s ≡ status.Done) ⊎ (s ≡ status.Memory))
+    → IsComplete s file left shelf input out
+on_told None left s shelf input out told = tt
+on_told (Some f) None s shelf input out told = λ accepted. tt
+on_told (Some f) (Some bytes) s shelf input out told = λ accepted few no_shelf no_input no_out. told f bytes accepted refl refl few no_shelf no_input no_out
 
--- of a file that is accepted, with few bytes and no count that rose
-finished : (s t : Status) (f bytes : List ℕ) (shelf input out : Type 0) → s ≡ t → IsAccepted f → length bytes < 2 ^ 60 → ¬ shelf → ¬ input → ¬ out
-    → (s ≡ status.Usage → ⊥) → (s ≡ status.RulesRefused → HasNone f) → (s ≡ status.ReadFault → shelf ⊎ input) → (s ≡ status.WriteFault → out) → (s ≡ status.TooLong → 2 ^ 60 ≤ length bytes)
-    → (s ≡ status.Done) ⊎ (s ≡ status.Memory)
-finished s status.Done f bytes shelf input out e accepted few no_shelf no_input no_out usage refused read write long = inl e
-finished s status.Usage f bytes shelf input out e accepted few no_shelf no_input no_out usage refused read write long = absurd (usage e)
-finished s status.RulesRefused f bytes shelf input out e accepted few no_shelf no_input no_out usage refused read write long = absurd (refused e accepted.0 accepted.1)
-finished s status.ReadFault f bytes shelf input out e accepted few no_shelf no_input no_out usage refused read write long = absurd (neither no_shelf no_input (read e))
-finished s status.WriteFault f bytes shelf input out e accepted few no_shelf no_input no_out usage refused read write long = absurd (no_out (write e))
-finished s status.Memory f bytes shelf input out e accepted few no_shelf no_input no_out usage refused read write long = inr e
-finished s status.TooLong f bytes shelf input out e accepted few no_shelf no_input no_out usage refused read write long = absurd (let l = long e in omega (arith, l, few))
+complete_why : (file left : Option (List ℕ)) (a b : ℕ) (input out : Type 0) (cause : Cause) → WhyNoRules file a b cause → IsComplete (status_of cause) file left (Rose a b) input out
+complete_why file left a b input out Done w = absurd w
+complete_why file left a b input out Usage w = absurd w
+complete_why file left a b input out (RulesRefused r) w = on_told file left _ _ input out
+    (λ f bytes accepted is told few no_shelf no_input no_out. absurd ((subst (λ o. IfSome o (λ f. IsRefused f r × HasNone f)) is w.0).1 accepted.0 accepted.1))
+complete_why file left a b input out RulesUnread w = on_told file left _ _ input out (λ f bytes accepted is told few no_shelf no_input no_out. absurd (no_shelf w))
+complete_why file left a b input out InputUnread w = absurd w
+complete_why file left a b input out WriteFault w = absurd w
+complete_why file left a b input out Memory w = on_told file left _ _ input out (λ f bytes accepted is told few no_shelf no_input no_out. inr refl)
+complete_why file left a b input out TooLong w = absurd w
 
-told : (s : Status) (file left : Option (List ℕ)) (shelf input out : Type 0) → (s ≡ status.Usage → file ≡ None) → (s ≡ status.RulesRefused → IfSome file HasNone) → (s ≡ status.ReadFault → shelf ⊎ input) → (s ≡ status.WriteFault → out)
-    → (s ≡ status.TooLong → IfSome left (λ bytes. 2 ^ 60 ≤ length bytes)) → IsComplete s file left shelf input out
-told s None left shelf input out usage refused read write long = tt
-told s (Some f) None shelf input out usage refused read write long = λ accepted. tt
-told s (Some f) (Some bytes) shelf input out usage refused read write long =
-    λ accepted few no_shelf no_input no_out. finished s s f bytes shelf input out refl accepted few no_shelf no_input no_out (λ e. let n = usage e in cc) refused read write long
+-- ---- how a run ends
 
-no_file : (asked : Option PlainJob) (holds : List ℕ → Option (List ℕ)) → asked ≡ None → file_of asked holds ≡ None
-no_file asked holds e = ap (λ o. file_of o holds) e
+module _ (asked : Option PlainJob) (holds : List ℕ → Option (List ℕ)) (intact : Type 0) (left left' got got' : Option (List ℕ)) (before now : Counts) where
+  -- what holds of the rules that were read
+  on_read : (r : Result (Unit {0}) ServeFault) (s : ServedBy asked holds r left left' got got' before now) (P : Setting → Type 0) → P (setting_for s.job s.rules) → OnRules asked holds P
+  on_read r s P p = subst (λ a. OnRules a holds P) (sym s.asks) (on_rules s.job (holds s.job.rules) s.rules P s.accepted p)
 
-pub complete : (s : Status) (asked : Option PlainJob) (holds : List ℕ → Option (List ℕ)) (left : Option (List ℕ)) (shelf input out : Type 0)
-    → (s ≡ status.Usage → asked ≡ None) → (s ≡ status.RulesRefused → IfSome (file_of asked holds) HasNone) → (s ≡ status.ReadFault → shelf ⊎ input) → (s ≡ status.WriteFault → out)
-    → (s ≡ status.TooLong → IfSome left (λ bytes. 2 ^ 60 ≤ length bytes)) → IsComplete s (file_of asked holds) left shelf input out
-complete s asked holds left shelf input out usage refused read write long = told s (file_of asked holds) left shelf input out (λ e. no_file asked holds (usage e)) refused read write long
+  complete_over : (r : Result (Unit {0}) ServeFault) → ServedBy asked holds r left left' got got' before now
+      → IsComplete (status_of (cause_of r)) (file_of asked holds) left (Rose before.shelf now.shelf) (Rose before.source now.source) (Rose before.sink now.sink)
+  complete_over (Ok x) s = on_told _ left _ _ _ _ (λ f bytes accepted is told few no_shelf no_input no_out. inl refl)
+  complete_over (Err fault.Read) s = on_told _ left _ _ _ _ (λ f bytes accepted is told few no_shelf no_input no_out. absurd (no_input s.counts.0))
+  complete_over (Err fault.Write) s = on_told _ left _ _ _ _ (λ f bytes accepted is told few no_shelf no_input no_out. absurd (no_out s.counts.1))
+  complete_over (Err fault.Memory) s = on_told _ left _ _ _ _ (λ f bytes accepted is told few no_shelf no_input no_out. inr refl)
+  complete_over (Err fault.TooLong) s = on_told _ left _ _ _ _ (λ f bytes accepted is told few no_shelf no_input no_out.
+      let long = subst (λ o. IfSome o (λ b. INPUT_LIMIT ≤ length b)) told (long_input left left' s.taken s.served.takes s.served.ends.0) in absurd (omega (arith, few, long)))
 
-pub long_served : (r : Result (Unit {0}) ServeFault) → cause_of r ≡ TooLong → r ≡ Err fault.TooLong
-long_served (Ok x) e = absurd (let f = e in cc)
-long_served (Err fault.Read) e = absurd (let f = e in cc)
-long_served (Err fault.Write) e = absurd (let f = e in cc)
-long_served (Err fault.Memory) e = absurd (let f = e in cc)
-long_served (Err fault.TooLong) e = refl
+  -- a run over lines that ended with a status, by the result that has it
+  as_result : (r q : Result (Unit {0}) ServeFault) → ServedBy asked holds r left left' got got' before now → r ≡ q → ServedBy asked holds q left left' got got' before now
+  as_result r q s e = subst (λ x. ServedBy asked holds x left left' got got' before now) e s
+
+  module _ (cause : Cause) where
+    over : (r : Result (Unit {0}) ServeFault) (s : Status) → cause ≡ cause_of r → status_of cause ≡ s → status_of (cause_of r) ≡ s
+    over r s is e = ap status_of (sym is) ∙ e
+
+    -- ---- what is written
+
+    pub done : RunEnds asked holds intact left left' got got' before now cause → status_of cause ≡ status.Done
+        → OnRules asked holds (λ w. IfSome left (λ bytes. Gives got got' (out_text w bytes)))
+    done (OutOfForm none is shelf same) e = absurd (let f = ap status_of (sym is) ∙ e in cc)
+    done (NoRules some why same) e = absurd (why_unserved _ _ _ cause why (subst WasServed (sym e) tt))
+    done (OverLines r is s) e =
+        let t = as_result r (Ok tt) s (is_done r (over r status.Done is e)) in
+        on_read (Ok tt) t _ (done_text (setting_for t.job t.rules) tt left left' got got' _ t.taken t.served)
+
+    untouched_part : Untouched intact left left' got got' before now → OnRules asked holds (λ w. PartFor w left left' got got')
+    untouched_part same = any_rules asked holds _ (λ w. subst (λ l. PartFor w left l got got') (sym same.same_left) (subst (λ g. PartFor w left left got g) (sym same.same_got) (none_sent w left got)))
+
+    pub part : RunEnds asked holds intact left left' got got' before now cause → OnRules asked holds (λ w. PartFor w left left' got got')
+    part (OutOfForm none is shelf same) = untouched_part same
+    part (NoRules some why same) = untouched_part same
+    part (OverLines r is s) = on_read r s _ (part_for (setting_for s.job s.rules) r left left' got got' _ s.taken s.served)
+
+    untouched_replied : Untouched intact left left' got got' before now
+        → OnRules asked holds (λ w. OnTaken left left' (λ taken. Gives got got' (replies (start w) (ended taken))))
+    untouched_replied same = any_rules asked holds _ (λ w. on_taken left left' [] _ (none_taken left left' same.same_left) (same.same_got ∙ sym (append_known-nil got)))
+
+    pub replied : RunEnds asked holds intact left left' got got' before now cause → status_of cause ≡ status.ReadFault
+        → OnRules asked holds (λ w. OnTaken left left' (λ taken. Gives got got' (replies (start w) (ended taken))))
+    replied (OutOfForm none is shelf same) e = untouched_replied same
+    replied (NoRules some why same) e = untouched_replied same
+    replied (OverLines r is s) e =
+        let t = as_result r (Err fault.Read) s (is_read r (over r status.ReadFault is e)) in
+        on_read (Err fault.Read) t _ (on_taken left left' t.taken _ t.served.takes t.served.ends.1)
+
+    long_over : ServedBy asked holds (Err fault.TooLong) left left' got got' before now
+        → Rose before.sink now.sink ⊎ OnRules asked holds (λ w. OnTaken left left' (λ taken. Gives got got' (replies (start w) (ended taken))))
+    long_over t = elim t.served.ends.2 [ inl rose ↦ inl rose | inr sent ↦ inr (on_read (Err fault.TooLong) t _ (on_taken left left' t.taken _ t.served.takes sent)) ]
+
+    pub long_replied : RunEnds asked holds intact left left' got got' before now cause → status_of cause ≡ status.TooLong
+        → Rose before.sink now.sink ⊎ OnRules asked holds (λ w. OnTaken left left' (λ taken. Gives got got' (replies (start w) (ended taken))))
+    long_replied (OutOfForm none is shelf same) e = inr (untouched_replied same)
+    long_replied (NoRules some why same) e = inr (untouched_replied same)
+    long_replied (OverLines r is s) e = long_over (as_result r (Err fault.TooLong) s (is_long r (over r status.TooLong is e)))
+
+    -- ---- completeness
+
+    pub complete : RunEnds asked holds intact left left' got got' before now cause
+        → IsComplete (status_of cause) (file_of asked holds) left (Rose before.shelf now.shelf) (Rose before.source now.source) (Rose before.sink now.sink)
+    complete (OutOfForm none is shelf same) =
+        subst (λ a. IsComplete (status_of cause) (file_of a holds) left (Rose before.shelf now.shelf) (Rose before.source now.source) (Rose before.sink now.sink)) (sym none) tt
+    complete (NoRules some why same) = complete_why (file_of asked holds) left before.shelf now.shelf _ _ cause why
+    complete (OverLines r is s) =
+        subst (λ c. IsComplete (status_of c) (file_of asked holds) left (Rose before.shelf now.shelf) (Rose before.source now.source) (Rose before.sink now.sink)) (sym is) (complete_over r s)

@@ -1,40 +1,39 @@
--- What a piece of the input does to the state, to the part of a line that is kept, and to the output.
+-- What a piece of the input does to what lines have come to, to the part of a line that is kept, and to the output.
 use Rattle.std.specs.Prelude.{◌≡◌, ℕ, List, Option}
 use Rattle.flow_ports.specs.Flow.{Gives, GivesPart}
 use Rattle.event_model.specs.Lines.{ended_from, rest_from}
 use Rattle.line_reader.specs.Cutting.{NoFeed}
 use Rattle.line_reader.specs.Holding.{Holds}
 use Rattle.line_reader.specs.declared.reading.LineReader.{LineReader}
-use Rattle.pattern_meaning.specs.Replies.{State}
-use Rattle.etalis_cli.specs.Output.{after, replies}
+use Rattle.etalis_cli.specs.Output.{Talk, after, replies}
 use Rattle.etalis_cli.specs.StandsFor.{StandsFor}
 use Rattle.etalis_cli.specs.declared.session.Session.{Session}
 
 -- what is kept between two pieces, and what the output has got
 pub record Kept : Type 0 where
-  pub state : State
+  pub talk : Talk
   pub part : List ℕ
   pub got : Option (List ℕ)
 
--- the piece was taken, and each line that it ended has its reply
+-- the piece was read, and each line that it ended has its reply
 pub record Feeds (old new : Kept) (piece : List ℕ) : Type 0 where
-  pub state : new.state ≡ after old.state (ended_from old.part piece)
+  pub talk : new.talk ≡ after old.talk (ended_from old.part piece)
   pub part : new.part ≡ rest_from old.part piece
-  pub got : Gives old.got new.got (replies old.state (ended_from old.part piece))
+  pub got : Gives old.got new.got (replies old.talk (ended_from old.part piece))
 
--- the reader holds this part of a line, and the session stands for this state
-pub record Between (session : Session) (reader : LineReader) (s : State) (part : List ℕ) : Type 0 where
-  pub stands : StandsFor session s
+-- the reader holds this part of a line, and the session stands for this talk
+pub record Between (session : Session) (reader : LineReader) (t : Talk) (part : List ℕ) : Type 0 where
+  pub stands : StandsFor session t
   pub holds : Holds reader part
   pub plain : NoFeed part
 
--- the piece was taken, and the session and the reader stand for what was reached
+-- the piece was read, and the session and the reader stand for what was reached
 pub record FedTo (old : Kept) (session : Session) (reader : LineReader) (sent : Option (List ℕ)) (piece : List ℕ) : Type 0 where
-  pub reached : State
+  pub reached : Talk
   pub rest : List ℕ
   pub between : Between session reader reached rest
-  pub feeds : Feeds old (record { state = reached; part = rest; got = sent }) piece
+  pub feeds : Feeds old (record { talk = reached; part = rest; got = sent }) piece
 
 -- some first part of these replies went out
 pub record FeedsPart (old : Kept) (got : Option (List ℕ)) (piece : List ℕ) : Type 0 where
-  pub sent : GivesPart old.got got (replies old.state (ended_from old.part piece))
+  pub sent : GivesPart old.got got (replies old.talk (ended_from old.part piece))

@@ -6,3 +6,4 @@ pub mod Rules
 pub mod Replying
 pub mod Words
 pub mod Run
+pub mod Headline

@@ -11,14 +11,15 @@ use Rattle.rule_parser.specs.Answers.{SyntaxIn, LimitIn}
 use Rattle.rule_check.specs.Verdict.{IsSound, IsRefusal}
 use Rattle.rule_check.specs.declared.faults.CheckFault.{CheckFault}
 use Rattle.rule_check.specs.declared.faults.CheckFault.TheVariants as check
-use Rattle.etalis_cli.specs.declared.refusals.Refusal.{Refusal}
-use Rattle.etalis_cli.specs.declared.refusals.Refusal.TheVariants as refusal
+use Rattle.etalis_cli.specs.declared.refusals.FileRefusal.{FileRefusal}
+use Rattle.etalis_cli.specs.declared.refusals.FileRefusal.TheVariants as refusal
+use Rattle.etalis_cli.specs.declared.accepting.TheConstants.{MOST_FILE_BYTES}
 use Rattle.etalis_cli.specs.declared.accepting.AcceptFault.{AcceptFault}
 use Rattle.etalis_cli.specs.declared.accepting.AcceptFault.TheVariants as fault
 
--- at most 1,048,576 bytes, and UTF-8
+-- not too long, and UTF-8
 pub record IsText (file : List ℕ) : Type 0 where
-  pub short : length file ≤ 1048576
+  pub short : length file ≤ MOST_FILE_BYTES
   pub utf8 : IsUtf8 file
 
 -- the file's text holds these rules, and they are sound
@@ -43,9 +44,9 @@ pub record IsUnsound (file : List ℕ) (fault : CheckFault) : Type 0 where
   pub found : fault ≢ check.Memory
 
 -- the first of these that holds of the file
-abbrev pub IsRefused : List ℕ → Refusal → Type 0
-IsRefused file refusal.TooLong = 1048576 < length file
-IsRefused file (refusal.NotUtf8 at) = (length file ≤ 1048576) × IsValidUpTo file at
+abbrev pub IsRefused : List ℕ → FileRefusal → Type 0
+IsRefused file refusal.TooLong = MOST_FILE_BYTES < length file
+IsRefused file (refusal.NotUtf8 at) = (length file ≤ MOST_FILE_BYTES) × IsValidUpTo file at
 IsRefused file (refusal.Syntax at) = IsText file × SyntaxIn file at
 IsRefused file (refusal.Limit which at) = IsText file × LimitIn file which at
 IsRefused file (refusal.Unsound fault) = IsUnsound file fault
@@ -88,7 +89,7 @@ fault_note (check.ShowUnknown number) = numbered (codes "etalis: rules: show ") 
 fault_note (check.Cycle number) = numbered (codes "etalis: rules: rule ") number (codes ": cycle\n")
 fault_note check.Memory = codes "etalis: out of memory\n"
 
-abbrev pub refusal_note : Refusal → List ℕ
+abbrev pub refusal_note : FileRefusal → List ℕ
 refusal_note refusal.TooLong = codes "etalis: rules: over 1048576 bytes\n"
 refusal_note (refusal.NotUtf8 at) = placed (codes "etalis: rules: not utf-8 at ") at
 refusal_note (refusal.Syntax at) = placed (codes "etalis: rules: syntax at ") at

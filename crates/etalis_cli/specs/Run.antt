@@ -1,43 +1,147 @@
 -- What the top call says.
-use Rattle.std.specs.Prelude.{◌≡◌, ℕ, ◌<◌, ◌^◌, ◌-◌, ◌⊎◌, Bool, true, List, [], Option, Some, None, Result, Ok, Err, IfSome, ◌≤◌, length, take, codes, ⊤}
-use Rattle.flow_ports.specs.Flow.{Gives, GivesPart}
+use Rattle.std.specs.Prelude.{◌≡◌, ◌≢◌, ℕ, ◌<◌, ◌≤◌, ◌-◌, ◌⊎◌, Bool, true, List, [], Option, Some, None, Result, Ok, Err, IfSome, length, take, codes, ⊤}
+use Rattle.flow_ports.specs.Flow.{Rose, Gives, GivesPart}
 use Rattle.event_model.specs.Lines.{ended}
 use Rattle.rule_ast.specs.Trees.{PlainStatement}
+use Rattle.rule_ast.specs.Plain.{plain_rules}
+use Rattle.rule_ast.specs.declared.statements.RuleSet.{RuleSet}
 use Rattle.etalis_cli.specs.Output.{Setting, start, replies, out_text}
+use Rattle.etalis_cli.specs.Outcome.{Served, Counted}
 use Rattle.etalis_cli.specs.Words.{PlainJob}
-use Rattle.etalis_cli.specs.Rules.{Accepted, IsAccepted, IsRefused, refusal_note}
-use Rattle.etalis_cli.specs.declared.refusals.Refusal.{Refusal}
+use Rattle.etalis_cli.specs.Rules.{Accepted, IsAccepted, HasNone, IsRefused, refusal_note}
+use Rattle.etalis_cli.specs.declared.refusals.FileRefusal.{FileRefusal}
+use Rattle.etalis_cli.specs.declared.serving.TheConstants.{INPUT_LIMIT, MOST_PIECE_BYTES}
 use Rattle.etalis_cli.specs.declared.serving.ServeFault.{ServeFault}
 use Rattle.etalis_cli.specs.declared.serving.ServeFault.TheVariants as fault
 use Rattle.etalis_cli.specs.declared.status.Status.{Status}
 use Rattle.etalis_cli.specs.declared.status.Status.TheVariants as status
 use Rattle.etalis_cli.specs.declared.status.Cause.{Cause}
 use Rattle.etalis_cli.specs.declared.status.Cause.TheVariants.{Done, Usage, RulesRefused, RulesUnread, InputUnread, WriteFault, Memory, TooLong}
+use Rattle.etalis_cli.specs.declared.voices.Voice.TheVariants.{Replies}
+
+-- ---- what the words ask for
 
 -- what the file of that form holds, where told
 abbrev pub file_of : Option PlainJob → (List ℕ → Option (List ℕ)) → Option (List ℕ)
 file_of None holds = None
 file_of (Some job) holds = holds job.rules
 
--- how late an event may come by that form
-abbrev pub late_of : Option PlainJob → Option ℕ
-late_of None = None
-late_of (Some job) = job.late
-
 -- the file of that form may be asked for
 abbrev pub MayAsk : Option PlainJob → (List ℕ → Bool) → Type 0
 MayAsk None serves = ⊤
 MayAsk (Some job) serves = serves job.rules ≡ true
 
--- P holds of the rules that the file is accepted as and of the lateness, where the file is told and accepted
-abbrev pub OnRules : Option (List ℕ) → Option ℕ → (Setting → Type 0) → Type 0
-OnRules file late P = IfSome file (λ f. (rules : List PlainStatement) → Accepted f rules → P (record { rules = rules; late = late }))
+-- what a job runs with, by the rules of its file; each job that the words can ask for is a run
+abbrev pub setting_for : PlainJob → List PlainStatement → Setting
+setting_for job rules = record { rules = rules; late = job.late; voice = Replies }
+
+-- P holds of what the job runs with, where its file is told and accepted
+abbrev pub OnRules : Option PlainJob → (List ℕ → Option (List ℕ)) → (Setting → Type 0) → Type 0
+OnRules None holds P = ⊤
+OnRules (Some job) holds P =
+    IfSome (holds job.rules) (λ file. (rules : List PlainStatement) → Accepted file rules → P (setting_for job rules))
+
+-- ---- what is taken and written
 
 -- P holds of the bytes that were taken, where they are told
 abbrev pub OnTaken : Option (List ℕ) → Option (List ℕ) → (List ℕ → Type 0) → Type 0
 OnTaken None left' P = ⊤
 OnTaken (Some xs) None P = ⊤
 OnTaken (Some xs) (Some ys) P = P (take (length xs - length ys) xs)
+
+-- A first part of the whole output went out, with the replies to all lines whose line feed is among the bytes taken but the last piece's.
+abbrev pub PartFor : Setting → Option (List ℕ) → Option (List ℕ) → Option (List ℕ) → Option (List ℕ) → Type 0
+PartFor w None left' got got' = ⊤
+PartFor w (Some xs) None got got' = ⊤
+PartFor w (Some xs) (Some ys) got got' = (n : ℕ) × Gives got got' (take n (out_text w xs))
+    × (length (replies (start w) (ended (take (length xs - length ys - MOST_PIECE_BYTES) xs))) ≤ n)
+
+-- ---- how a run ends, by its cause
+
+-- how often the calls of the shelf, of the source and of the output have failed
+pub record Counts : Type 0 where
+  pub shelf : ℕ
+  pub source : ℕ
+  pub sink : ℕ
+
+-- the source and the output are the very same, which `intact` says; so are their bytes, where told, and their counts
+pub record Untouched (intact : Type 0) (left left' got got' : Option (List ℕ)) (before now : Counts) : Type 0 where
+  pub very_same : intact
+  pub same_left : left' ≡ left
+  pub same_got : got' ≡ got
+  pub same_source : now.source ≡ before.source
+  pub same_sink : now.sink ≡ before.sink
+
+-- why no rules were read of the file, where the shelf's count was and is so
+abbrev pub WhyNoRules : Option (List ℕ) → ℕ → ℕ → Cause → Type 0
+WhyNoRules file shelf shelf' Done = ⊥
+WhyNoRules file shelf shelf' Usage = ⊥
+WhyNoRules file shelf shelf' (RulesRefused refusal) = IfSome file (λ f. IsRefused f refusal × HasNone f) × (shelf' ≡ shelf)
+WhyNoRules file shelf shelf' RulesUnread = Rose shelf shelf'
+WhyNoRules file shelf shelf' InputUnread = ⊥
+WhyNoRules file shelf shelf' WriteFault = ⊥
+WhyNoRules file shelf shelf' Memory = shelf' ≡ shelf
+WhyNoRules file shelf shelf' TooLong = ⊥
+
+-- the rules of the file, or why none were read
+abbrev pub RulesRead : Option (List ℕ) → ℕ → ℕ → Result RuleSet Cause → Type 0
+RulesRead file shelf shelf' (Ok rules) = IfSome file (λ f. Accepted f (plain_rules rules)) × (shelf' ≡ shelf)
+RulesRead file shelf shelf' (Err cause) = WhyNoRules file shelf shelf' cause
+
+-- the cause that a run over the lines ends with
+abbrev pub cause_of : Result (Unit {0}) ServeFault → Cause
+cause_of (Ok _) = Done
+cause_of (Err fault.Read) = InputUnread
+cause_of (Err fault.Write) = WriteFault
+cause_of (Err fault.Memory) = Memory
+cause_of (Err fault.TooLong) = TooLong
+
+-- the rules of the job's file were read, and the lines of these bytes were served by them
+pub record ServedBy (asked : Option PlainJob) (holds : List ℕ → Option (List ℕ)) (result : Result (Unit {0}) ServeFault)
+    (left left' got got' : Option (List ℕ)) (before now : Counts) : Type 0 where
+  pub job : PlainJob
+  pub rules : List PlainStatement
+  pub taken : List ℕ
+  pub asks : asked ≡ Some job
+  pub accepted : IfSome (holds job.rules) (λ file. Accepted file rules)
+  pub served : Served (setting_for job rules) result left left' got got' (Rose before.sink now.sink) taken
+  pub shelf : now.shelf ≡ before.shelf
+  pub counts : Counted result before.source now.source before.sink now.sink
+
+-- The words are out of form; or no rules were read of the job's file; or its lines were served by them. In the first two cases
+-- neither the source nor the output was asked for anything.
+pub data RunEnds (asked : Option PlainJob) (holds : List ℕ → Option (List ℕ)) (intact : Type 0)
+    (left left' got got' : Option (List ℕ)) (before now : Counts) (cause : Cause) : Type 0 where
+  OutOfForm : asked ≡ None → cause ≡ Usage → now.shelf ≡ before.shelf → Untouched intact left left' got got' before now
+      → RunEnds asked holds intact left left' got got' before now cause
+  NoRules : asked ≢ None → WhyNoRules (file_of asked holds) before.shelf now.shelf cause
+      → Untouched intact left left' got got' before now
+      → RunEnds asked holds intact left left' got got' before now cause
+  OverLines : (result : Result (Unit {0}) ServeFault) → cause ≡ cause_of result
+      → ServedBy asked holds result left left' got got' before now
+      → RunEnds asked holds intact left left' got got' before now cause
+
+-- ---- statuses
+
+abbrev pub status_of : Cause → Status
+status_of Done = status.Done
+status_of Usage = status.Usage
+status_of (RulesRefused refusal) = status.RulesRefused
+status_of RulesUnread = status.ReadFault
+status_of InputUnread = status.ReadFault
+status_of WriteFault = status.WriteFault
+status_of Memory = status.Memory
+status_of TooLong = status.TooLong
+
+-- the exit status of the program
+abbrev pub exit_code : Status → ℕ
+exit_code status.Done = 0
+exit_code status.Usage = 1
+exit_code status.RulesRefused = 2
+exit_code status.ReadFault = 3
+exit_code status.WriteFault = 4
+exit_code status.Memory = 5
+exit_code status.TooLong = 6
 
 -- the rule file was read, and the source may have been
 abbrev pub WasServed : Status → Type 0
@@ -49,45 +153,32 @@ WasServed status.RulesRefused = ⊥
 WasServed status.ReadFault = ⊥
 WasServed status.Memory = ⊥
 
--- A first part of the whole output went out, with the replies to all lines whose line feed is among the bytes taken but the last 8192.
-abbrev pub PartFor : Setting → Option (List ℕ) → Option (List ℕ) → Option (List ℕ) → Option (List ℕ) → Type 0
-PartFor w None left' got got' = ⊤
-PartFor w (Some xs) None got got' = ⊤
-PartFor w (Some xs) (Some ys) got got' = (n : ℕ) × Gives got got' (take n (out_text w xs))
-    × (length (replies (start w) (ended (take (length xs - length ys - 8192) xs))) ≤ n)
+abbrev pub NoneRose : Counts → Counts → Type 0
+NoneRose before now = (now.shelf ≡ before.shelf) × (now.source ≡ before.source) × (now.sink ≡ before.sink)
 
--- A file that is told and accepted, with fewer than 2^60 bytes of input, and no count that rose, gives `Done`, unless memory fails.
+-- which counts have risen where a run ends so: none, or that of the one device that has failed
+abbrev pub CountsAt : Status → Counts → Counts → Type 0
+CountsAt status.Done before now = NoneRose before now
+CountsAt status.Usage before now = NoneRose before now
+CountsAt status.RulesRefused before now = NoneRose before now
+CountsAt status.ReadFault before now = (now.sink ≡ before.sink) × ((Rose before.shelf now.shelf × (now.source ≡ before.source))
+    ⊎ ((now.shelf ≡ before.shelf) × Rose before.source now.source))
+CountsAt status.WriteFault before now = (now.shelf ≡ before.shelf) × (now.source ≡ before.source) × Rose before.sink now.sink
+CountsAt status.Memory before now = NoneRose before now
+CountsAt status.TooLong before now = (now.shelf ≡ before.shelf) × (now.source ≡ before.source) × (before.sink ≤ now.sink)
+
+-- no count has fallen
+pub record NoneFell (before now : Counts) : Type 0 where
+  pub shelf : before.shelf ≤ now.shelf
+  pub source : before.source ≤ now.source
+  pub sink : before.sink ≤ now.sink
+
+-- A file that is told and accepted, with fewer bytes of input than the limit, and no count that rose, gives `Done`, unless memory fails.
 abbrev pub IsComplete : Status → Option (List ℕ) → Option (List ℕ) → Type 0 → Type 0 → Type 0 → Type 0
-IsComplete s file left shelf input out = IfSome file (λ f. IsAccepted f → IfSome left (λ bytes. length bytes < 2 ^ 60 → ¬ shelf → ¬ input → ¬ out → (s ≡ status.Done) ⊎ (s ≡ status.Memory)))
+IsComplete s file left shelf input out = IfSome file (λ f. IsAccepted f
+    → IfSome left (λ bytes. length bytes < INPUT_LIMIT → ¬ shelf → ¬ input → ¬ out → (s ≡ status.Done) ⊎ (s ≡ status.Memory)))
 
--- the cause that a run over the lines ends with
-abbrev pub cause_of : Result (Unit {0}) ServeFault → Cause
-cause_of (Ok _) = Done
-cause_of (Err fault.Read) = InputUnread
-cause_of (Err fault.Write) = WriteFault
-cause_of (Err fault.Memory) = Memory
-cause_of (Err fault.TooLong) = TooLong
-
--- the source may have been read before a run ended so
-abbrev pub IsServeCause : Cause → Type 0
-IsServeCause Done = ⊤
-IsServeCause Usage = ⊥
-IsServeCause (RulesRefused refusal) = ⊥
-IsServeCause RulesUnread = ⊥
-IsServeCause InputUnread = ⊤
-IsServeCause WriteFault = ⊤
-IsServeCause Memory = ⊤
-IsServeCause TooLong = ⊤
-
-abbrev pub status_of : Cause → Status
-status_of Done = status.Done
-status_of Usage = status.Usage
-status_of (RulesRefused refusal) = status.RulesRefused
-status_of RulesUnread = status.ReadFault
-status_of InputUnread = status.ReadFault
-status_of WriteFault = status.WriteFault
-status_of Memory = status.Memory
-status_of TooLong = status.TooLong
+-- ---- notes
 
 -- what goes to the notes
 abbrev pub note_of : Cause → List ℕ
@@ -104,20 +195,9 @@ note_of TooLong = codes "etalis: input too long\n"
 abbrev pub Told : Option (List ℕ) → Option (List ℕ) → Type 0 → List ℕ → Type 0
 Told got got' rose text = Gives got got' text ⊎ (rose × GivesPart got got' text)
 
--- a refusal for a cause comes where the file, if told, is refused for it
-abbrev pub RefusedAs : Cause → Option (List ℕ) → Type 0
-RefusedAs (RulesRefused refusal) file = IfSome file (λ f. IsRefused f refusal)
-RefusedAs Done file = ⊤
-RefusedAs Usage file = ⊤
-RefusedAs RulesUnread file = ⊤
-RefusedAs InputUnread file = ⊤
-RefusedAs WriteFault file = ⊤
-RefusedAs Memory file = ⊤
-RefusedAs TooLong file = ⊤
-
 -- the text is the note of what the file, if told, is refused for
 pub record IsRefusalNote (text : List ℕ) (file : Option (List ℕ)) : Type 0 where
-  pub refusal : Refusal
+  pub refusal : FileRefusal
   pub cause : IfSome file (λ f. IsRefused f refusal)
   pub note : text ≡ refusal_note refusal
 
@@ -126,7 +206,8 @@ abbrev pub IsNoteOf : Status → List ℕ → Option (List ℕ) → Type 0 → T
 IsNoteOf status.Done text file shelf input = text ≡ []
 IsNoteOf status.Usage text file shelf input = text ≡ codes "etalis: usage: etalis MODE RULES [--late N] [--seed N] [--lines N]\n"
 IsNoteOf status.RulesRefused text file shelf input = IsRefusalNote text file
-IsNoteOf status.ReadFault text file shelf input = (shelf × (text ≡ codes "etalis: cannot read rules\n")) ⊎ (input × (text ≡ codes "etalis: cannot read input\n"))
+IsNoteOf status.ReadFault text file shelf input =
+    (shelf × (text ≡ codes "etalis: cannot read rules\n")) ⊎ (input × (text ≡ codes "etalis: cannot read input\n"))
 IsNoteOf status.WriteFault text file shelf input = text ≡ codes "etalis: cannot write\n"
 IsNoteOf status.Memory text file shelf input = text ≡ codes "etalis: out of memory\n"
 IsNoteOf status.TooLong text file shelf input = text ≡ codes "etalis: input too long\n"

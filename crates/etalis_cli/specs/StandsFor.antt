@@ -1,19 +1,20 @@
--- Which states a session stands for: it keeps what their histories come to, and not the histories.
+-- Which talks a session stands for: it keeps what their histories come to, and not the histories.
 use Rattle.std.specs.Prelude.{◌≡◌, ◌≤◌, length}
-use Rattle.pattern_meaning.specs.Replies.{State}
+use Rattle.event_model.specs.Presence.{all_inputs}
 use Rattle.etalis_core.specs.StandsFor as core
 use Rattle.etalis_core.specs.StandsFor.{rules_of, late_of}
-use Rattle.etalis_cli.specs.Output.{Setting}
+use Rattle.etalis_cli.specs.Output.{Setting, Talk}
 use Rattle.etalis_cli.specs.declared.session.Session.{Session}
 
 -- what a session was made with
 abbrev pub setting_of : Session → Setting
-setting_of session = record { rules = rules_of session.engine; late = late_of session.engine }
+setting_of session = record { rules = rules_of session.engine; late = late_of session.engine; voice = session.voice }
 
-pub record StandsFor (session : Session) (s : State) : Type 0 where
-  pub same_rules : s.rules ≡ rules_of session.engine
-  pub same_late : s.late ≡ late_of session.engine
-  pub same_count : s.count ≡ session.count
-  pub inputs : core.StandsFor session.engine s.history
+pub record StandsFor (session : Session) (t : Talk) : Type 0 where
+  pub same_rules : t.state.rules ≡ rules_of session.engine
+  pub same_late : t.state.late ≡ late_of session.engine
+  pub same_voice : t.voice ≡ session.voice
+  pub same_count : t.state.count ≡ session.count
+  pub inputs : core.StandsFor session.engine t.state.history
   -- no line is more than one input
-  pub few : length s.history ≤ s.count
+  pub few : length (all_inputs t.state.history) ≤ t.state.count

@@ -1,16 +1,17 @@
 // Pieces of the input to lines, and lines to replies.
-ghost use Rattle.std.specs.Prelude.{◌≡◌, ◌+◌, ◌^◌, ◌<◌, ◌≤◌, ℕ, List, Some, length, OnOk, OnErr, IsErrOf};
+ghost use Rattle.std.specs.Prelude.{◌≡◌, ◌+◌, ◌<◌, ◌≤◌, ℕ, List, Some, length, OnOk, OnErr, IsErrOf};
 ghost use Rattle.flow_ports.specs.Flow.{Rose};
-ghost use Rattle.pattern_meaning.specs.Replies.{State};
+ghost use Rattle.etalis_core.specs.declared.present.TheConstants.{MOST_COPIES};
+ghost use Rattle.etalis_cli.specs.Output.{Talk};
 ghost use Rattle.etalis_cli.specs.Feeds.{Between, FedTo, FeedsPart};
 
 use crate::session::Session;
-use flow_ports::{Sink, write_whole};
+use flow_ports::{Failed, Sink, write_whole};
 use line_reader::LineReader;
 use std::alloc::AllocError;
 use thiserror::Error;
 
-/// Why a piece wasn't taken to its end.
+/// Why a piece wasn't answered to its end.
 #[derive(Clone, Copy, Debug, PartialEq, Eq, Error)]
 pub enum FeedFault {
     #[error("the output failed")]
@@ -19,16 +20,37 @@ pub enum FeedFault {
     Memory,
 }
 
-// Takes a piece of the input, and appends the replies to the lines that it ends.
-fn take_piece(
+impl From<AllocError> for FeedFault {
+    ghost use Rattle.etalis_cli.specs.declared.feeding.FeedFault.TheVariants.{Memory};
+
+    ghost from_gives = { λ _ f. f ≡ Memory };
+
+    fn from(_error: AllocError) -> FeedFault {
+        FeedFault::Memory
+    }
+}
+
+impl From<Failed> for FeedFault {
+    ghost use Rattle.etalis_cli.specs.declared.feeding.FeedFault.TheVariants.{Write};
+
+    ghost from_gives = { λ _ f. f ≡ Write };
+
+    fn from(_fault: Failed) -> FeedFault {
+        FeedFault::Write
+    }
+}
+
+// Reads a piece of the input, and appends the replies to the lines that it ends.
+fn answer_piece(
     session: &mut Session,
     reader: &mut LineReader,
     piece: &[u8],
     text: &mut Vec<u8>,
 ) -> Result<(), AllocError>
-    requires { (s : State) × (part : List ℕ) × Between session.old reader.old s part × (s.count + length piece.now < 2 ^ 63) }
-    ensures { (s : State) (part : List ℕ) → Between session.old reader.old s part → OnOk result (FedTo
-        record { state = s; part = part; got = Some text.old.items }
+    requires { (t : Talk) × (part : List ℕ) × Between session.old reader.old t part
+        × (t.state.count + length piece.now < MOST_COPIES) }
+    ensures { (t : Talk) (part : List ℕ) → Between session.old reader.old t part → OnOk result (FedTo
+        record { talk = t; part = part; got = Some text.old.items }
         session.new reader.new (Some text.new.items) piece.now) }
 {
     reader.feed(piece)?;
@@ -38,7 +60,7 @@ fn take_piece(
     Ok(())
 }
 
-/// Takes a piece of the input. The replies to the lines that it ends are gathered in the buffer
+/// Reads a piece of the input. The replies to the lines that it ends are gathered in the buffer
 /// `text`, and go out together.
 pub fn feed<O: Sink>(
     session: &mut Session,
@@ -47,23 +69,19 @@ pub fn feed<O: Sink>(
     out: &mut O,
     piece: &[u8],
 ) -> Result<(), FeedFault>
-    requires { (s : State) × (part : List ℕ) × Between session.old reader.old s part × (s.count + length piece.now < 2 ^ 63) }
-    ensures ok { (s : State) (part : List ℕ) → Between session.old reader.old s part → OnOk result (FedTo
-        record { state = s; part = part; got = O.got out.old }
+    requires { (t : Talk) × (part : List ℕ) × Between session.old reader.old t part
+        × (t.state.count + length piece.now < MOST_COPIES) }
+    ensures ok { (t : Talk) (part : List ℕ) → Between session.old reader.old t part → OnOk result (FedTo
+        record { talk = t; part = part; got = O.got out.old }
         session.new reader.new (O.got out.new) piece.now) }
-    ensures err { (s : State) (part : List ℕ) → Between session.old reader.old s part → OnErr result (FeedsPart
-        record { state = s; part = part; got = O.got out.old } (O.got out.new) piece.now) }
+    ensures err { (t : Talk) (part : List ℕ) → Between session.old reader.old t part → OnErr result (FeedsPart
+        record { talk = t; part = part; got = O.got out.old } (O.got out.new) piece.now) }
     ensures write { IsErrOf result FeedFault.Write → Rose (O.faults out.old) (O.faults out.new) }
     ensures memory { IsErrOf result FeedFault.Memory → O.faults out.new ≡ O.faults out.old }
     ensures count { OnOk result (O.faults out.new ≡ O.faults out.old) }
 {
     text.clear();
-    match take_piece(session, reader, piece, text) {
-        Ok(()) => {}
-        Err(_) => return Err(FeedFault::Memory),
-    }
-    match write_whole(out, text) {
-        Ok(()) => Ok(()),
-        Err(_) => Err(FeedFault::Write),
-    }
+    answer_piece(session, reader, piece, text)?;
+    write_whole(out, text)?;
+    Ok(())
 }

@@ -11,12 +11,14 @@ mod serving;
 mod session;
 mod status;
 mod top;
+mod voices;
 mod words;
 
-pub use accepting::files_have_one_meaning;
+pub use accepting::{MOST_FILE_BYTES, files_have_one_meaning};
 pub use laws::what_is_written_stands;
-pub use serving::{ServeFault, serve};
+pub use serving::{INPUT_LIMIT, MOST_PIECE_BYTES, ServeFault, serve};
 pub use session::Session;
-pub use status::Status;
+pub use status::{Status, exit_code};
 pub use top::run;
+pub use voices::Voice;
 pub use words::{Job, Mode, WordsFault, run_words};

@@ -4,7 +4,7 @@ ghost use Rattle.flow_ports.specs.Flow.{CountsFaults, Rose, Gives, GivesPart};
 ghost use Rattle.etalis_cli.specs.Rules.{numbered, placed, named, limit_words, fault_note, refusal_note};
 ghost use Rattle.etalis_cli.specs.Run.{note_of, Told};
 
-use crate::refusals::Refusal;
+use crate::refusals::FileRefusal;
 use crate::status::Cause;
 use event_model::Name;
 use flow_ports::{Failed, Sink, write_whole};
@@ -64,7 +64,8 @@ fn tell_words<N: Sink>(notes: &mut N, words: &[u8])
 }
 
 fn tell_numbered<N: Sink>(notes: &mut N, front: &[u8], number: u64, back: &[u8])
-    ensures { Told (N.got notes.old) (N.got notes.new) (Rose (N.faults notes.old) (N.faults notes.new)) (numbered front.now number back.now) }
+    ensures { Told (N.got notes.old) (N.got notes.new) (Rose (N.faults notes.old) (N.faults notes.new))
+        (numbered front.now number back.now) }
 {
     match write_numbered(notes, front, number, back) {
         Ok(()) => {}
@@ -117,15 +118,15 @@ fn tell_fault<N: Sink>(notes: &mut N, fault: &CheckFault)
 }
 
 // Writes why a rule file is refused.
-fn tell_refusal<N: Sink>(notes: &mut N, refusal: &Refusal)
+fn tell_refusal<N: Sink>(notes: &mut N, refusal: &FileRefusal)
     ensures { Told (N.got notes.old) (N.got notes.new) (Rose (N.faults notes.old) (N.faults notes.new)) (refusal_note refusal.now) }
 {
     match refusal {
-        Refusal::TooLong => tell_words(notes, b"etalis: rules: over 1048576 bytes\n"),
-        Refusal::NotUtf8(at) => tell_placed(notes, b"etalis: rules: not utf-8 at ", *at),
-        Refusal::Syntax(at) => tell_placed(notes, b"etalis: rules: syntax at ", *at),
-        Refusal::Limit(which, at) => tell_placed(notes, limit_words(*which), *at),
-        Refusal::Unsound(fault) => tell_fault(notes, fault),
+        FileRefusal::TooLong => tell_words(notes, b"etalis: rules: over 1048576 bytes\n"),
+        FileRefusal::NotUtf8(at) => tell_placed(notes, b"etalis: rules: not utf-8 at ", *at),
+        FileRefusal::Syntax(at) => tell_placed(notes, b"etalis: rules: syntax at ", *at),
+        FileRefusal::Limit(which, at) => tell_placed(notes, limit_words(*which), *at),
+        FileRefusal::Unsound(fault) => tell_fault(notes, fault),
     }
 }
 

@@ -4,7 +4,7 @@ use rule_grammar::Which;
 
 /// Why a rule file is refused. A place is a number of bytes from the file's begin.
 #[derive(Debug, Drop)]
-pub enum Refusal {
+pub enum FileRefusal {
     TooLong,
     /// The longest first part that is UTF-8 ends there.
     NotUtf8(usize),

@@ -1,23 +1,22 @@
 // Lines to their replies.
-ghost use Rattle.std.specs.Prelude.{◌≡◌, ◌++◌, ◌∷◌, ◌<◌, ◌≤◌, ◌^◌, ℕ, List, [], length, true, false, OnOk};
+ghost use Rattle.std.specs.Prelude.{◌≡◌, ◌++◌, ◌<◌, ◌≤◌, ℕ, List, length, true, false, IfOk, OnOk};
 ghost use Rattle.event_model.specs.Lines.{without_cr};
-ghost use Rattle.event_model.specs.Presence.{verdict, after_verdict};
+ghost use Rattle.event_model.specs.Presence.{History, all_inputs, extended, settles, verdict, after_verdict};
+ghost use Rattle.event_model.specs.declared.inputs.TheConstants.{MOST_LINE_BYTES};
 ghost use Rattle.line_reader.specs.Cutting.{IsLine};
-ghost use Rattle.pattern_meaning.specs.Replies.{change_by, both_texts, reply, reply_to_input, reply_text};
+ghost use Rattle.pattern_meaning.specs.Replies.{change_by, both_texts, says_nothing, reply, reply_to_input, reply_text};
 ghost use Rattle.event_reader.specs.Machine.{heard};
 ghost use Rattle.etalis_core.specs.StandsFor.{StandsFor, WorksFrom, CanBegin, rules_of, late_of, last_change, is_working, is_spent};
-ghost use Rattle.etalis_cli.specs.Replying.{refusal_of, is_quiet};
+ghost use Rattle.etalis_core.specs.declared.present.TheConstants.{MOST_COPIES};
+ghost use Rattle.etalis_cli.specs.Replying.{refusal_of};
 
 use detect_writer::{change_text, ok_text, refusal_text};
 use etalis_core::Engine;
-use event_model::{Input, Judgement, Refusal};
+use event_model::{Input, Judgement, MOST_LINE_BYTES, Refusal};
 use event_reader::{LineFault, parse_line};
 use line_reader::Line;
 use revision::Progress;
 use std::alloc::{AllocError, Global};
-
-// The most bytes of a line.
-const MOST_BYTES: u64 = 65536;
 
 // How many visits a turn of the engine may make.
 const UNITS: u32 = 1024;
@@ -28,24 +27,31 @@ fn refusal_of(judgement: Judgement) -> Option<Refusal>
 {
     match judgement {
         Judgement::Fine => None,
+        Judgement::Batch => Some(Refusal::Batch),
         Judgement::Below { bound } => Some(Refusal::Below(bound)),
         Judgement::Absent => Some(Refusal::Absent),
     }
 }
 
-// Whether an input has no reply.
-fn is_quiet(input: &Input) -> bool
-    ensures { result ≡ is_quiet input.now }
+// Whether an input has no reply even where it settles something.
+fn says_nothing(input: &Input) -> bool
+    ensures { result ≡ says_nothing input.now }
 {
-    matches!(input, Input::Nothing)
+    match input {
+        Input::Nothing => true,
+        Input::Add(_) | Input::Take(_) | Input::Advance(_) | Input::Begin | Input::Commit => false,
+    }
 }
 
 // Has the engine work until the input that was begun is done.
 fn finish(engine: &mut Engine) -> Result<(), AllocError>
     requires { is_working engine.old ≡ true }
-    ensures stands { (h : List Input) (input : Input) → WorksFrom engine.old h input → OnOk result (StandsFor engine.new (h ++ input ∷ [])) }
-    ensures change { (h : List Input) (input : Input) → WorksFrom engine.old h input
+    ensures stands { (h : History) (input : Input) → WorksFrom engine.old h input
+        → OnOk result (StandsFor engine.new (extended h input)) }
+    ensures change { (h : History) (input : Input) → WorksFrom engine.old h input
         → OnOk result (last_change engine.new ≡ change_by (rules_of engine.old) h input) }
+    ensures resting { OnOk result (is_working engine.new ≡ false) }
+    ensures unspent { OnOk result (is_spent engine.new ≡ false) }
     ensures rules { OnOk result (rules_of engine.new ≡ rules_of engine.old) }
     ensures late { OnOk result (late_of engine.new ≡ late_of engine.old) }
 {
@@ -58,19 +64,27 @@ fn finish(engine: &mut Engine) -> Result<(), AllocError>
     }
 }
 
-// Has the engine take an input that is fine.
-fn take(engine: &mut Engine, input: Input) -> Result<(), AllocError>
-    requires { (h : List Input) × CanBegin engine.old h input }
-    ensures stands { (h : List Input) → StandsFor engine.old h → OnOk result (StandsFor engine.new (h ++ input ∷ [])) }
-    ensures change { (h : List Input) → StandsFor engine.old h
+// Has the engine accept an input that is fine, and answers whether that settled something. The engine works only where it did.
+fn accept(engine: &mut Engine, input: Input) -> Result<bool, AllocError>
+    requires { (h : History) × CanBegin engine.old h input }
+    ensures settled { (h : History) → StandsFor engine.old h → IfOk result (λ settled. settled ≡ settles h input) }
+    ensures stands { (h : History) → StandsFor engine.old h → OnOk result (StandsFor engine.new (extended h input)) }
+    ensures change { (h : History) → StandsFor engine.old h → settles h input ≡ true
         → OnOk result (last_change engine.new ≡ change_by (rules_of engine.old) h input) }
+    ensures resting { OnOk result (is_working engine.new ≡ false) }
+    ensures unspent { OnOk result (is_spent engine.new ≡ false) }
     ensures rules { OnOk result (rules_of engine.new ≡ rules_of engine.old) }
     ensures late { OnOk result (late_of engine.new ≡ late_of engine.old) }
 {
     match engine.begin(input) {
-        Ok(()) => finish(engine),
-        Err(_) => Err(AllocError),
+        Ok(()) => {}
+        Err(_) => return Err(AllocError),
     }
+    if !engine.working() {
+        return Ok(false);
+    }
+    finish(engine)?;
+    Ok(true)
 }
 
 // The lines of what changed last.
@@ -85,43 +99,43 @@ fn push_changes(engine: &Engine, out: &mut Vec<u8>) -> Result<(), AllocError>
     Ok(())
 }
 
-// Takes an input that is fine, and appends its reply.
-fn take_input(
+// Accepts an input that is fine, and appends its reply.
+fn answer_input(
     engine: &mut Engine,
     number: u64,
     input: Input,
     out: &mut Vec<u8>,
 ) -> Result<(), AllocError>
-    requires { (h : List Input) × CanBegin engine.old h input }
-    ensures stands { (h : List Input) → StandsFor engine.old h → OnOk result (StandsFor engine.new (h ++ input ∷ [])) }
-    ensures text { (h : List Input) → StandsFor engine.old h
+    requires { (h : History) × CanBegin engine.old h input }
+    ensures stands { (h : History) → StandsFor engine.old h → OnOk result (StandsFor engine.new (extended h input)) }
+    ensures text { (h : History) → StandsFor engine.old h
         → OnOk result (out.new.items ≡ out.old.items ++ reply_text (reply_to_input (rules_of engine.old) h number input)) }
     ensures rules { OnOk result (rules_of engine.new ≡ rules_of engine.old) }
     ensures late { OnOk result (late_of engine.new ≡ late_of engine.old) }
 {
-    let quiet = is_quiet(&input);
-    take(engine, input)?;
-    if quiet {
+    let silent = says_nothing(&input);
+    let settled = accept(engine, input)?;
+    if !settled || silent {
         return Ok(());
     }
     push_changes(engine, out)?;
     ok_text(number, out)
 }
 
-// Takes line N, of at most 65,536 bytes, and appends its reply.
-fn take_line(
+// Appends the reply to line N, which isn't too long, and accepts it where it is fine.
+fn answer_line(
     alloc: Global,
     engine: &mut Engine,
     number: u64,
     line: &[u8],
     out: &mut Vec<u8>,
 ) -> Result<(), AllocError>
-    requires stands { (h : List Input) × StandsFor engine.old h × (length h < 2 ^ 63) }
-    requires short { length line.now ≤ 65536 }
-    ensures stands { (h : List Input) → StandsFor engine.old h
-        → OnOk result (StandsFor engine.new (after_verdict h (verdict (late_of engine.old) h (heard line.now)))) }
-    ensures text { (h : List Input) → StandsFor engine.old h
-        → OnOk result (out.new.items ≡ out.old.items ++ reply_text (reply (rules_of engine.old) h number (verdict (late_of engine.old) h (heard line.now)))) }
+    requires stands { (h : History) × StandsFor engine.old h × (length (all_inputs h) < MOST_COPIES) }
+    requires short { length line.now ≤ MOST_LINE_BYTES }
+    ensures stands { (h : History) → StandsFor engine.old h → let judged = verdict (late_of engine.old) h (heard line.now) in
+        OnOk result (StandsFor engine.new (after_verdict h judged)) }
+    ensures text { (h : History) → StandsFor engine.old h → let judged = verdict (late_of engine.old) h (heard line.now) in
+        OnOk result (out.new.items ≡ out.old.items ++ reply_text (reply (rules_of engine.old) h number judged)) }
     ensures rules { OnOk result (rules_of engine.new ≡ rules_of engine.old) }
     ensures late { OnOk result (late_of engine.new ≡ late_of engine.old) }
 {
@@ -132,11 +146,11 @@ fn take_line(
     };
     match refusal_of(engine.judge(&input)) {
         Some(refusal) => refusal_text(number, refusal, out),
-        None => take_input(engine, number, input, out),
+        None => answer_input(engine, number, input, out),
     }
 }
 
-/// Takes line N, and appends its reply. After an `Err` no more lines should follow.
+/// Appends the reply to line N, and accepts it where it is fine. After an `Err` no more lines should follow.
 pub fn reply_line(
     alloc: Global,
     engine: &mut Engine,
@@ -144,17 +158,19 @@ pub fn reply_line(
     line: Line<'_>,
     out: &mut Vec<u8>,
 ) -> Result<(), AllocError>
-    requires stands { (h : List Input) × StandsFor engine.old h × (length h < 2 ^ 63) }
+    requires stands { (h : History) × StandsFor engine.old h × (length (all_inputs h) < MOST_COPIES) }
     requires line { (raw : List ℕ) × IsLine line raw }
-    ensures stands { (h : List Input) (raw : List ℕ) → StandsFor engine.old h → IsLine line.entry raw
-        → OnOk result (StandsFor engine.new (after_verdict h (verdict (late_of engine.old) h (heard (without_cr raw))))) }
-    ensures text { (h : List Input) (raw : List ℕ) → StandsFor engine.old h → IsLine line.entry raw
-        → OnOk result (out.new.items ≡ out.old.items ++ reply_text (reply (rules_of engine.old) h number (verdict (late_of engine.old) h (heard (without_cr raw))))) }
+    ensures stands { (h : History) (raw : List ℕ) → StandsFor engine.old h → IsLine line.entry raw
+        → let judged = verdict (late_of engine.old) h (heard (without_cr raw)) in
+        OnOk result (StandsFor engine.new (after_verdict h judged)) }
+    ensures text { (h : History) (raw : List ℕ) → StandsFor engine.old h → IsLine line.entry raw
+        → let judged = verdict (late_of engine.old) h (heard (without_cr raw)) in
+        OnOk result (out.new.items ≡ out.old.items ++ reply_text (reply (rules_of engine.old) h number judged)) }
     ensures rules { OnOk result (rules_of engine.new ≡ rules_of engine.old) }
     ensures late { OnOk result (late_of engine.new ≡ late_of engine.old) }
 {
     match line {
-        Line::Bytes(bytes) => take_line(alloc, engine, number, bytes, out),
-        Line::Long => refusal_text(number, Refusal::Syntax(MOST_BYTES), out),
+        Line::Bytes(bytes) => answer_line(alloc, engine, number, bytes, out),
+        Line::Long => refusal_text(number, Refusal::Syntax(MOST_LINE_BYTES as u64), out),
     }
 }

@@ -1,16 +1,15 @@
 // The lines of a source, to their replies.
-ghost use Rattle.std.specs.Prelude.{◌≡◌, ◌^◌, ◌<◌, ◌≤◌, ℕ, List, OnOk, OnErr, IsErrOf};
+ghost use Rattle.std.specs.Prelude.{◌≡◌, ◌<◌, ◌≤◌, ℕ, List, OnOk, OnErr, IsErrOf};
 ghost use Rattle.flow_ports.specs.Flow.{Rose, Gives, GivesPart};
-ghost use Rattle.pattern_meaning.specs.Replies.{State};
-ghost use Rattle.etalis_cli.specs.Output.{start};
+ghost use Rattle.etalis_cli.specs.Output.{Talk, start};
 ghost use Rattle.etalis_cli.specs.StandsFor.{StandsFor, setting_of};
 ghost use Rattle.etalis_cli.specs.Feeds.{Between};
-ghost use Rattle.etalis_cli.specs.Outcome.{Served, tail};
+ghost use Rattle.etalis_cli.specs.Outcome.{Served, Counted, tail};
+ghost use Rattle.etalis_core.specs.declared.present.TheConstants.{MOST_COPIES};
 
 use crate::feeding::{FeedFault, feed};
 use crate::session::Session;
-use detect_writer::end_text;
-use flow_ports::{Sink, Source, write_whole};
+use flow_ports::{Failed, Sink, Source, write_whole};
 use line_reader::LineReader;
 use std::alloc::{AllocError, Global};
 use thiserror::Error;
@@ -28,9 +27,21 @@ pub enum ServeFault {
     TooLong,
 }
 
-const CHUNK: usize = 8192;
+impl From<AllocError> for ServeFault {
+    ghost use Rattle.etalis_cli.specs.declared.serving.ServeFault.TheVariants.{Memory};
 
-const LIMIT: u64 = 1 << 60;
+    ghost from_gives = { λ _ f. f ≡ Memory };
+
+    fn from(_error: AllocError) -> ServeFault {
+        ServeFault::Memory
+    }
+}
+
+/// Input is too long from so many bytes on.
+pub const INPUT_LIMIT: u64 = 1 << 60;
+
+/// A call asks the source for at most so many bytes.
+pub const MOST_PIECE_BYTES: usize = 8192;
 
 // The reply to a last line without a line feed, and the end.
 fn last_text(
@@ -38,17 +49,17 @@ fn last_text(
     reader: &mut LineReader,
     text: &mut Vec<u8>,
 ) -> Result<(), AllocError>
-    requires { (s : State) × (part : List ℕ) × Between session.old reader.old s part × (s.count < 2 ^ 62) }
-    ensures { (s : State) (part : List ℕ) → Between session.old reader.old s part
-        → OnOk result (text.new.items ≡ tail s part) }
+    requires { (t : Talk) × (part : List ℕ) × Between session.old reader.old t part × (t.state.count < MOST_COPIES) }
+    ensures { (t : Talk) (part : List ℕ) → Between session.old reader.old t part
+        → OnOk result (text.new.items ≡ tail t part) }
 {
     text.clear();
     match reader.finish() {
         Some(line) => {
             session.answer(line, text)?;
-            end_text(session.count(), text)
+            session.close(text)
         }
-        None => end_text(session.count(), text),
+        None => session.close(text),
     }
 }
 
@@ -59,29 +70,26 @@ fn finish<O: Sink>(
     text: &mut Vec<u8>,
     out: &mut O,
 ) -> Result<(), ServeFault>
-    requires { (s : State) × (part : List ℕ) × Between session.old reader.old s part × (s.count < 2 ^ 62) }
-    ensures ok { (s : State) (part : List ℕ) → Between session.old reader.old s part
-        → OnOk result (Gives (O.got out.old) (O.got out.new) (tail s part)) }
-    ensures err { (s : State) (part : List ℕ) → Between session.old reader.old s part
-        → OnErr result (GivesPart (O.got out.old) (O.got out.new) (tail s part)) }
+    requires { (t : Talk) × (part : List ℕ) × Between session.old reader.old t part × (t.state.count < MOST_COPIES) }
+    ensures ok { (t : Talk) (part : List ℕ) → Between session.old reader.old t part
+        → OnOk result (Gives (O.got out.old) (O.got out.new) (tail t part)) }
+    ensures err { (t : Talk) (part : List ℕ) → Between session.old reader.old t part
+        → OnErr result (GivesPart (O.got out.old) (O.got out.new) (tail t part)) }
     ensures write { IsErrOf result ServeFault.Write → Rose (O.faults out.old) (O.faults out.new) }
     ensures memory { IsErrOf result ServeFault.Memory → O.faults out.new ≡ O.faults out.old }
     ensures count { OnOk result (O.faults out.new ≡ O.faults out.old) }
     ensures read { IsErrOf result ServeFault.Read → ⊥ }
     ensures too_long { IsErrOf result ServeFault.TooLong → ⊥ }
 {
-    match last_text(session, reader, text) {
-        Ok(()) => {}
-        Err(_) => return Err(ServeFault::Memory),
-    }
+    last_text(session, reader, text)?;
     match write_whole(out, text) {
         Ok(()) => Ok(()),
-        Err(_) => Err(ServeFault::Write),
+        Err(Failed) => Err(ServeFault::Write),
     }
 }
 
 /// Reads the source to its end, and writes the replies to the lines of each piece as soon as it is
-/// there, from a session that has taken no line.
+/// there, from a session to which no line came.
 pub fn serve<I: Source, O: Sink>(
     alloc: Global,
     session: &mut Session,
@@ -92,19 +100,16 @@ pub fn serve<I: Source, O: Sink>(
     ensures served { (done : List ℕ)
         × Served (setting_of session.old) result (I.left input.old) (I.left input.new)
         (O.got out.old) (O.got out.new) (Rose (O.faults out.old) (O.faults out.new)) done }
-    ensures read { IsErrOf result ServeFault.Read → Rose (I.faults input.old) (I.faults input.new) }
-    ensures write { IsErrOf result ServeFault.Write → Rose (O.faults out.old) (O.faults out.new) }
-    ensures source_count { I.faults input.old ≤ I.faults input.new }
-    ensures sink_count { O.faults out.old ≤ O.faults out.new }
+    ensures counts { Counted result (I.faults input.old) (I.faults input.new) (O.faults out.old) (O.faults out.new) }
 {
     let mut reader = LineReader::new(alloc);
     let mut text = Vec::new(alloc);
-    let mut buf = [0u8; CHUNK];
+    let mut buf = [0u8; MOST_PIECE_BYTES];
     let mut taken: u64 = 0;
-    while taken < LIMIT {
+    while taken < INPUT_LIMIT {
         let n = match input.read(&mut buf) {
             Ok(n) => n,
-            Err(_) => return Err(ServeFault::Read),
+            Err(Failed) => return Err(ServeFault::Read),
         };
         if n == 0 {
             return finish(session, &mut reader, &mut text, out);
@@ -114,7 +119,7 @@ pub fn serve<I: Source, O: Sink>(
             Ok(()) => {}
             Err(FeedFault::Memory) => return Err(ServeFault::Memory),
             Err(FeedFault::Write) => {
-                if taken < LIMIT {
+                if taken < INPUT_LIMIT {
                     return Err(ServeFault::Write);
                 }
                 return Err(ServeFault::TooLong);

@@ -1,7 +1,10 @@
 // How a run ends.
-use crate::refusals::Refusal;
+ghost use Rattle.std.specs.Prelude.{◌≡◌};
+ghost use Rattle.etalis_cli.specs.Run.{status_of, exit_code};
 
-/// The statuses, in the order of the exit statuses from 0 to 6.
+use crate::refusals::FileRefusal;
+
+/// How a run ends.
 #[derive(Clone, Copy, Debug, PartialEq, Eq)]
 pub enum Status {
     Done,
@@ -18,10 +21,40 @@ pub enum Status {
 pub enum Cause {
     Done,
     Usage,
-    RulesRefused(Refusal),
+    RulesRefused(FileRefusal),
     RulesUnread,
     InputUnread,
     WriteFault,
     Memory,
     TooLong,
+}
+
+/// The exit status of the program.
+pub fn exit_code(status: Status) -> u8
+    ensures { result ≡ exit_code status }
+{
+    match status {
+        Status::Done => 0,
+        Status::Usage => 1,
+        Status::RulesRefused => 2,
+        Status::ReadFault => 3,
+        Status::WriteFault => 4,
+        Status::Memory => 5,
+        Status::TooLong => 6,
+    }
+}
+
+/// The status that a cause is told by.
+pub fn status_of(cause: &Cause) -> Status
+    ensures { result ≡ status_of cause.now }
+{
+    match cause {
+        Cause::Done => Status::Done,
+        Cause::Usage => Status::Usage,
+        Cause::RulesRefused(_) => Status::RulesRefused,
+        Cause::RulesUnread | Cause::InputUnread => Status::ReadFault,
+        Cause::WriteFault => Status::WriteFault,
+        Cause::Memory => Status::Memory,
+        Cause::TooLong => Status::TooLong,
+    }
 }

@@ -4,6 +4,7 @@ ghost use Rattle.std.specs.List.{list_all};
 ghost use Rattle.std.specs.Str.Parse.{digits_value};
 ghost use Rattle.etalis_cli.specs.Words.{PlainJob, form, is_name, is_digit, late_said, run_of, plain_job};
 
+use event_model::TIME_LIMIT;
 use std::alloc::{AllocError, Global};
 use thiserror::Error;
 
@@ -22,7 +23,7 @@ pub enum Mode {
 pub struct Job {
     pub mode: Mode,
     pub rules: String,
-    /// In ticks, below 2^62.
+    /// In ticks, below `TIME_LIMIT`.
     pub late: Option<u64>,
     pub seed: u64,
     pub lines: u64,
@@ -35,6 +36,17 @@ pub enum WordsFault {
     Usage,
     #[error("no memory is left")]
     Memory,
+}
+
+impl From<AllocError> for WordsFault {
+    ghost use Rattle.std.specs.Prelude.{◌≡◌};
+    ghost use Rattle.etalis_cli.specs.declared.words.WordsFault.TheVariants.{Memory};
+
+    ghost from_gives = { λ _ f. f ≡ Memory };
+
+    fn from(_error: AllocError) -> WordsFault {
+        WordsFault::Memory
+    }
 }
 
 // Whether a word can name a file.
@@ -69,13 +81,13 @@ fn read_number(word: &str) -> Option<u64>
 // The ticks that a word says.
 fn read_late(word: &str) -> Option<u64>
     ensures value { result ≡ late_said word.now }
-    ensures range { IfSome result (λ late. late < 2 ^ 62) }
+    ensures range { IfSome result (λ late. late < TIME_LIMIT) }
 {
     if !all_digits(word.as_bytes()) {
         return None;
     }
     let late = read_number(word)?;
-    if late >= 1 << 62 {
+    if late >= TIME_LIMIT {
         return None;
     }
     Some(late)
@@ -97,7 +109,7 @@ fn run_job(alloc: Global, name: &str, late: Option<u64>) -> Result<Job, AllocErr
 // The name of the rule file and the lateness, where the words are in form.
 fn run_parts(words: &[String]) -> Option<(&str, Option<u64>)>
     ensures form { MatchOption result (form words.now ≡ None) (λ x. form words.now ≡ Some (run_of x.0.now x.1)) }
-    ensures range { IfSome result (λ x. IfSome x.1 (λ late. late < 2 ^ 62)) }
+    ensures range { IfSome result (λ x. IfSome x.1 (λ late. late < TIME_LIMIT)) }
 {
     match words {
         [mode, name] => {
@@ -120,18 +132,15 @@ fn run_parts(words: &[String]) -> Option<(&str, Option<u64>)>
 }
 
 /// The job that the words give, in one of the forms `run RULES` and `run RULES --late N`, where N is
-/// one digit or more with a value below 2^62.
+/// one digit or more with a value below `TIME_LIMIT`.
 pub fn run_words(alloc: Global, words: &[String]) -> Result<Job, WordsFault>
     ensures ok { IfOk result (λ job. form words.now ≡ Some (plain_job job)) }
-    ensures late { IfOk result (λ job. IfSome job.late (λ late. late < 2 ^ 62)) }
+    ensures late { IfOk result (λ job. IfSome job.late (λ late. late < TIME_LIMIT)) }
     ensures usage { IsErrOf result WordsFault.Usage ↔ (form words.now ≡ None) }
 {
     let (name, late) = match run_parts(words) {
         Some(parts) => parts,
         None => return Err(WordsFault::Usage),
     };
-    match run_job(alloc, name, late) {
-        Ok(job) => Ok(job),
-        Err(_) => Err(WordsFault::Memory),
-    }
+    Ok(run_job(alloc, name, late)?)
 }

@@ -3,4 +3,4 @@ use Rattle.etalis_cli.proofs.OutputLaws.{written, first_replies, left_after}
 use Rattle.etalis_cli.proofs.laws.what_is_written_stands.Goals as goal
 
 pub returns : goal.returns
-returns c = record { written = written; first = λ w. first_replies (start w); left = left_after }
+returns c = record { written = written; first = λ w. first_replies (start w).state; left = left_after }

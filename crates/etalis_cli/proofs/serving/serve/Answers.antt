@@ -1,5 +1,6 @@
-use Rattle.std.proofs.Common.{rules, arith, ◌≤◌, ◌<◌, ◌^◌, ◌++◌, take, length, inl}
+use Rattle.std.proofs.Common.{rules, arith, ◌≤◌, ◌<◌, ◌++◌, take, length, inl}
 use Rattle.std.proofs.lemmas.List.{length-take, length-take-le, length-append}
+use Rattle.etalis_cli.specs.declared.serving.TheConstants.{INPUT_LIMIT, MOST_PIECE_BYTES}
 use Rattle.etalis_cli.proofs.ServeLaws.{reached_more, reached_count, served_end, served_long, reached_part, reached_takes}
 use Rattle.etalis_cli.proofs.serving.serve.Goals as goal
 
@@ -37,7 +38,7 @@ pub returns-in-Err-Memory-clause-served : goal.returns-in-Err-Memory-clause-serv
 returns-in-Err-Memory-clause-served g c =
     let (done, r) = c.loop-taken.invariant.progress in
     let piece = take c.in-Ok.n c.read.new.buf in
-    let small : length piece ≤ 8192 = omega (arith, length-take c.in-Ok.n c.read.new.buf) in (
+    let small : length piece ≤ MOST_PIECE_BYTES = omega (arith, length-take c.in-Ok.n c.read.new.buf) in (
       done ++ piece,
       record {
         takes = reached_takes _ _ _ _ _ c.loop-taken.session c.loop-taken.reader _ _ _ _ r c.in-Ok.ensures.bytes;
@@ -45,15 +46,15 @@ returns-in-Err-Memory-clause-served g c =
       },
     )
 
-pub returns-then-taken-lt-LIMIT-clause-served : goal.returns-then-taken-lt-LIMIT-clause-served
-returns-then-taken-lt-LIMIT-clause-served g c =
+pub returns-then-taken-lt-INPUT_LIMIT-clause-served : goal.returns-then-taken-lt-INPUT_LIMIT-clause-served
+returns-then-taken-lt-INPUT_LIMIT-clause-served g c =
     let (done, r) = c.loop-taken.invariant.progress in
     let n = c.in-Ok.n in
     let piece = take n c.read.new.buf in
     let within : n ≤ length c.read.new.buf = search rules in
     let len = length-take-le n c.read.new.buf within in
-    let small : length piece ≤ 8192 = omega (arith, length-take n c.read.new.buf) in
-    let low : length (done ++ piece) < 2 ^ 60 = omega (arith, length-append done piece, len, r.progress.count) in (
+    let small : length piece ≤ MOST_PIECE_BYTES = omega (arith, length-take n c.read.new.buf) in
+    let low : length (done ++ piece) < INPUT_LIMIT = omega (arith, length-append done piece, len, r.progress.count) in (
       done ++ piece,
       record {
         takes = reached_takes _ _ _ _ _ c.loop-taken.session c.loop-taken.reader _ _ _ _ r c.in-Ok.ensures.bytes;
@@ -68,8 +69,8 @@ returns-in-Err-Write-clause-served g c =
     let piece = take n c.read.new.buf in
     let within : n ≤ length c.read.new.buf = search rules in
     let len = length-take-le n c.read.new.buf within in
-    let small : length piece ≤ 8192 = omega (arith, length-take n c.read.new.buf) in
-    let high : 2 ^ 60 ≤ length (done ++ piece) = omega (arith, length-append done piece, len, r.progress.count) in (
+    let small : length piece ≤ MOST_PIECE_BYTES = omega (arith, length-take n c.read.new.buf) in
+    let high : INPUT_LIMIT ≤ length (done ++ piece) = omega (arith, length-append done piece, len, r.progress.count) in (
       done ++ piece,
       record {
         takes = reached_takes _ _ _ _ _ c.loop-taken.session c.loop-taken.reader _ _ _ _ r c.in-Ok.ensures.bytes;

@@ -1,6 +1,7 @@
-use Rattle.std.proofs.Common.{◌≡◌, ◌-◌, ◌^◌, ℕ, List}
+use Rattle.std.proofs.Common.{◌≡◌, ◌-◌, ℕ, List}
 use Rattle.etalis_cli.specs.StandsFor.{setting_of}
 use Rattle.etalis_cli.specs.Outcome.{Reached}
+use Rattle.etalis_cli.specs.declared.serving.TheConstants.{INPUT_LIMIT}
 use Rattle.etalis_cli.proofs.serving.serve.Given as goal
 
 abbrev pub invariant-loop-taken : goal.invariant-loop-taken
@@ -12,4 +13,4 @@ invariant-loop-taken g l = record {
 }
 
 abbrev pub decreases-loop-taken : goal.decreases-loop-taken
-decreases-loop-taken g l = 2 ^ 60 - l.taken
+decreases-loop-taken g l = INPUT_LIMIT - l.taken

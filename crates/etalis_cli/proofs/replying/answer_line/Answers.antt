@@ -6,8 +6,8 @@ use Rattle.event_reader.specs.Machine.{heard}
 use Rattle.event_reader.proofs.LineLaws.{heard_short}
 use Rattle.etalis_core.specs.StandsFor.{StandsFor, rules_of, late_of}
 use Rattle.etalis_cli.specs.Replying.{refusal_of}
-use Rattle.etalis_cli.proofs.ReplyLaws.{fails, says_refused, says_taken, refused_text, refused_history, taken_text, taken_history, not_refused, can_begin, any_ok}
-use Rattle.etalis_cli.proofs.replying.take_line.Goals as goal
+use Rattle.etalis_cli.proofs.ReplyLaws.{fails, says_refused, says_accepted, refused_text, refused_history, accepted_text, accepted_history, not_refused, may_begin, any_ok}
+use Rattle.etalis_cli.proofs.replying.answer_line.Goals as goal
 
 pub returns-in-Err-Syntax-clause-stands : goal.returns-in-Err-Syntax-clause-stands
 returns-in-Err-Syntax-clause-stands c = λ h p.
@@ -25,10 +25,10 @@ returns-in-Err-Syntax-clause-text c = λ h p.
     (λ e. e ∙ ap (λ t. c.args.out.now.items ++ t) (refused_text (rules_of c.args.engine.now) h c.args.number (verdict late h (heard line)) (Syntax c.in-Err-Syntax.at) (fails late h line c.in-Err-Syntax.at says)))
     c.refusal_text.ensures.ok
 
-pub take_input-requires : goal.take_input-requires
-take_input-requires c =
+pub answer_input-requires : goal.answer_input-requires
+answer_input-requires c =
     let (h, p, few) = c.requires.stands in
-    (h, can_begin c.args.engine.now h c.in-Ok.input p (not_refused _ (sym (ap refusal_of (c.judge.ensures h p)) ∙ sym c.refusal_of.ensures ∙ c.in-None.is)) few)
+    (h, may_begin c.args.engine.now h c.in-Ok.input p (not_refused _ (sym (ap refusal_of (c.judge.ensures h p)) ∙ sym c.refusal_of.ensures ∙ c.in-None.is)) few)
 
 pub returns-in-Some-clause-stands : goal.returns-in-Some-clause-stands
 returns-in-Some-clause-stands c = λ h p.
@@ -51,15 +51,15 @@ returns-in-None-clause-stands c = λ h p.
     let line = c.args.line.now in
     let late = late_of c.args.engine.now in
     let fine = not_refused _ (sym (ap refusal_of (c.judge.ensures h p)) ∙ sym c.refusal_of.ensures ∙ c.in-None.is) in
-    let takes = says_taken late h line c.in-Ok.input (heard_short line (Says c.in-Ok.input) c.in-Ok.ensures) fine in
-    on_ok_weaker c.take_input.result (λ s. subst (StandsFor c.take_input.new.engine) (taken_history h (verdict late h (heard line)) c.in-Ok.input takes) s) (c.take_input.ensures.stands h p)
+    let takes = says_accepted late h line c.in-Ok.input (heard_short line (Says c.in-Ok.input) c.in-Ok.ensures) fine in
+    on_ok_weaker c.answer_input.result (λ s. subst (StandsFor c.answer_input.new.engine) (accepted_history h (verdict late h (heard line)) c.in-Ok.input takes) s) (c.answer_input.ensures.stands h p)
 
 pub returns-in-None-clause-text : goal.returns-in-None-clause-text
 returns-in-None-clause-text c = λ h p.
     let line = c.args.line.now in
     let late = late_of c.args.engine.now in
     let fine = not_refused _ (sym (ap refusal_of (c.judge.ensures h p)) ∙ sym c.refusal_of.ensures ∙ c.in-None.is) in
-    let takes = says_taken late h line c.in-Ok.input (heard_short line (Says c.in-Ok.input) c.in-Ok.ensures) fine in
-    on_ok_weaker c.take_input.result
-    (λ e. e ∙ ap (λ t. c.args.out.now.items ++ t) (taken_text (rules_of c.args.engine.now) h c.args.number (verdict late h (heard line)) c.in-Ok.input takes))
-    (c.take_input.ensures.text h p)
+    let takes = says_accepted late h line c.in-Ok.input (heard_short line (Says c.in-Ok.input) c.in-Ok.ensures) fine in
+    on_ok_weaker c.answer_input.result
+    (λ e. e ∙ ap (λ t. c.args.out.now.items ++ t) (accepted_text (rules_of c.args.engine.now) h c.args.number (verdict late h (heard line)) c.in-Ok.input takes))
+    (c.answer_input.ensures.text h p)

@@ -1,6 +1,6 @@
 use Rattle.std.proofs.Common.{Some, arith}
 use Rattle.etalis_cli.proofs.FeedLaws.{drained_none, drained_line, drained_all, drained_count}
-use Rattle.etalis_cli.proofs.feeding.take_piece.Goals as goal
+use Rattle.etalis_cli.proofs.feeding.answer_piece.Goals as goal
 
 pub loop-line-init : goal.loop-line-init
 loop-line-init c = λ s part b. drained_none s part c.args.piece.now (Some c.args.text.now.items) c.args.session.now c.feed.new.self b.stands (c.in_ok-feed.ensures.ok part b.holds)
