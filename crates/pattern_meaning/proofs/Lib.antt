@@ -4,3 +4,4 @@ pub mod ClimbingLaws
 pub mod RefusalLaws
 pub mod BoundLaws
 pub mod OrderLaws
+pub mod BatchLaws

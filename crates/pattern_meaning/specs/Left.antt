@@ -1,7 +1,7 @@
 -- What the replies to lines leave: a table of detections that each reply changes.
 use Rattle.std.specs.Prelude.{ℕ, zero, suc, ◌+◌, ◌-◌, nat_lt, Option, Some, None, ◌≡◌, refl, Bool, true, false, cond, not, ◌&&◌, ◌||◌, ◌⊎◌, List, [], ◌∷◌, ◌++◌, map, length}
 use Rattle.std.specs.List.{filter, flat_map}
-use Rattle.std.proofs.Common.{ap, sym, ◌∙◌, subst, append-nil, inl, inr}
+use Rattle.std.proofs.Common.{ap, sym, ◌∙◌, subst, append-nil}
 use Rattle.std.proofs.lemmas.Bool.{true≢false}
 use Rattle.std.proofs.lemmas.List.Concat.{flat_map-append}
 use Rattle.ordered_lists.specs.Canon.{canon, has, Rising, Rising-canon, has-canon, has-append, canon_one}
@@ -86,11 +86,11 @@ after_nothing inputs = λ i. filter (λ e. nat_lt 0 (occurrences e (additions i)
     takings : flat_map taken (inputs ++ Nothing ∷ []) ≡ flat_map taken inputs
     takings = flat_map-append taken inputs (Nothing ∷ []) ∙ append-nil (flat_map taken inputs)
 
-abbrev parts : List (List Input) → Option (List Input) → History
+abbrev pub parts : List (List Input) → Option (List Input) → History
 parts groups batch = record { groups = groups; batch = batch }
 
 -- what has no reply changes no event
-untold : (groups : List (List Input)) (batch : Option (List Input)) (input : Input)
+pub untold : (groups : List (List Input)) (batch : Option (List Input)) (input : Input)
     → is_told (parts groups batch) input ≡ false
     → present (settled (extended (parts groups batch) input)) ≡ present (settled (parts groups batch))
 untold groups None (Add e) t = absurd (true≢false t)
@@ -207,27 +207,3 @@ replies_are_differences statements late saids said n c e =
     (same_rules (start statements late) saids)
     (subst (Differs (standing_after s.rules s.history) (standing_after s.rules after.history)) e
     (verdict_differs s.rules s.history (s.count + 1) (verdict s.late s.history said)))
-
--- ---- batches
-
-withheld_in_batch : (h : History) (input : Input) → (input ≡ Begin → ⊥) → IsWithheld h input → in_batch h ≡ true
-withheld_in_batch h input other (inl e) = absurd (other e)
-withheld_in_batch h input other (inr w) = w.0
-
-withheld_untold : (h : History) (input : Input) → IsWithheld h input → is_told h input ≡ false
-withheld_untold h (Add e) w = ap (λ b. not b && true) (withheld_in_batch h (Add e) (λ same. cc) w)
-withheld_untold h (Take e) w = ap (λ b. not b && true) (withheld_in_batch h (Take e) (λ same. cc) w)
-withheld_untold h (Advance t) w = ap (λ b. not b && true) (withheld_in_batch h (Advance t) (λ same. cc) w)
-withheld_untold h Nothing w = ap (λ b. not b && false) (withheld_in_batch h Nothing (λ same. cc) w)
-withheld_untold h Begin w = refl
-withheld_untold h Commit (inl e) = cc
-withheld_untold h Commit (inr w) = absurd (w.1 refl)
-
--- In a batch nothing is told, and nothing changes.
-pub withheld_is_quiet : (statements : List PlainStatement) (h : History) (n : ℕ) (input : Input) → IsWithheld h input
-    → IsQuiet statements h n input
-withheld_is_quiet statements h n input w =
-    let t = withheld_untold h input w in (
-      ap (λ b. cond b (Changing n (change_by statements h input)) Silent) t,
-      untold h.groups h.batch input t,
-    )
