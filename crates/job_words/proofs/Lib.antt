@@ -1,0 +1,11 @@
+pub mod WordLaws
+pub mod FaultLaws
+pub mod FormLaws
+pub mod ClapWalk
+pub mod ClapSteps
+pub mod ClapForm
+pub mod Spelling
+pub mod FormSound
+pub mod FormComplete
+pub mod FormJob
+pub mod FormExact

@@ -1,0 +1,4 @@
+pub mod Words
+pub mod Account
+pub mod Requests
+pub mod WorkedWords
