@@ -43,6 +43,7 @@ positive_product = simp (pairs_of-Var, instance-Var, instance-Num, nums, made.ou
 
 -- a product that isn't an i64 is undefined, and so not greater than 0
 undefined_product :
-    name_rows (rule 103 product ∷ []) (event 1 97 (pos 9223372036854775807) ∷ (event 2 98 (pos 2) ∷ [])) (record { name = 103 ∷ []; arity = 0 })
+    name_rows (rule 103 product ∷ []) (event 1 97 (pos 9223372036854775807) ∷ (event 2 98 (pos 2) ∷ []))
+    (record { name = 103 ∷ []; arity = 0 })
     ≡ []
 undefined_product = simp (pairs_of-Var, instance-Var, instance-Num, nums, made.outs-Num)

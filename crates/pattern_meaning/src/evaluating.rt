@@ -61,7 +61,8 @@ fn push_rules(alloc: Global, rules: &[Ranked], found: &mut Found) -> Result<(), 
 }
 
 fn push_rule(alloc: Global, rule: &Rule, found: &mut Found) -> Result<(), AllocError>
-    ensures { OnOk result (words_of found.new ≡ with_all (words_of found.old) (rule_detections (words_of found.old) (plain_rule rule.now))) }
+    ensures { OnOk result (words_of found.new
+        ≡ with_all (words_of found.old) (rule_detections (words_of found.old) (plain_rule rule.now))) }
 {
     let rows = pattern_rows(alloc, found, &rule.body)?;
     push_heads(alloc, &rule.head, &rows, found)
