@@ -1,4 +1,4 @@
-//! Tests: public calls of the lower crates on their happy paths and at their tables, and the paths by which callers name them.
+//! Tests: public calls of the lower crates on their happy paths and at their tables.
 #![tactic(auto)]
 
 #[cfg(test)]
@@ -13,7 +13,6 @@ mod finds;
 mod fixtures;
 #[cfg(test)]
 mod parses;
-pub mod paths;
 #[cfg(test)]
 mod reads;
 #[cfg(test)]

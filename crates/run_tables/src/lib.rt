@@ -1,5 +1,6 @@
-//! Tests of the program's top call over objects in memory.
+//! Tests: runs of the program's top call over objects in memory, and the paths by which callers name the library's parts.
 #![tactic(auto)]
 
+pub mod paths;
 #[cfg(test)]
 mod runs;

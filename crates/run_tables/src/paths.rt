@@ -3,6 +3,7 @@
 pub use detect_writer::{
     Refusal, change_text, drill_text, end_text, held_text, ok_text, refusal_text,
 };
+pub use etalis_cli::{Job, Mode, Status, WordsFault, exit_code, run, run_words};
 pub use etalis_core::{Engine, EngineFault, StartFault};
 pub use ev_bind::{Binding, Row, cmp_rows, match_atom};
 pub use ev_term::{
@@ -10,6 +11,10 @@ pub use ev_term::{
     TermFault, Terms, atom_text, cmp_detections, cmp_terms, read_atom, read_ground, term_text,
 };
 pub use event_reader::{Input, Judgement, Line, LineFault, LineReader, parse_line};
+pub use flow_ports::{
+    Failed, FileShelf, FromReader, MemShelf, MemSink, MemSource, Shelf, Sink, Source, ToWriter,
+    WholeFault, read_whole, write_whole,
+};
 pub use interval_ops::{Range, Side, in_range, pair, partner_range};
 pub use pattern_meaning::scratch;
 pub use revision::{Changed, Changes, EventChange, Progress, Sign};
