@@ -56,11 +56,11 @@ pub(crate) fn event(
     })
 }
 
-// The rules of a short text that is sound.
+// The rules of a text that is sound.
 pub(crate) fn checked(alloc: Global, text: &str) -> Result<Checked, Fail>
     ensures { IfOk result (λ c. IsSound (plain_rules c)) }
 {
-    if text.len() > 1000 {
+    if text.len() > 1_000_000 {
         return Err(Fail::new("a long text"));
     }
     let rules = parse(alloc, text)?;

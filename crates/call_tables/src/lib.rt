@@ -14,6 +14,8 @@ mod fixtures;
 #[cfg(test)]
 mod parses;
 #[cfg(test)]
+mod plans;
+#[cfg(test)]
 mod reads;
 #[cfg(test)]
 mod replies;

@@ -1,0 +1,11 @@
+pub mod HeadLaws
+pub mod Agreement
+pub mod ClimbingLaws
+pub mod PlaceLaws
+pub mod RuleLaws
+pub mod NeededLaws
+pub mod NeedsLaws
+pub mod RankLaws
+pub mod SlotLaws
+pub mod IndexLaws
+pub mod WholeLaws

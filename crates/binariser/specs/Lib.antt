@@ -1,0 +1,4 @@
+pub mod Heads
+pub mod Making
+pub mod Needed
+pub mod Ranks

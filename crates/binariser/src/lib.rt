@@ -1,0 +1,17 @@
+//! The plan of checked rules: binary steps, with the indexes that they use.
+#![tactic(auto)]
+
+mod binarising;
+mod bodies;
+mod faults;
+mod heads;
+mod indexes;
+mod names;
+mod places;
+mod ranks;
+mod rules;
+mod sharing;
+mod variables;
+
+pub use binarising::binarise;
+pub use faults::{MOST_STEPS, PlanFault};

@@ -1,0 +1,12 @@
+pub mod StepRows
+pub mod PlanOf
+pub mod WorkedPlans
+pub mod Counting
+pub mod NeededNames
+pub mod Growing
+pub mod Operands
+pub mod NamedSteps
+pub mod Chains
+pub mod Cuts
+pub mod PastRows
+pub mod PastEvents
