@@ -4,6 +4,6 @@ pub mod SessionLaws
 pub mod ServeLaws
 pub mod RuleLaws
 pub mod NoteLaws
-pub mod WordLaws
+pub mod JobLaws
 pub mod ReplyLaws
 pub mod TopLaws

@@ -1,17 +1,20 @@
 -- From how a run ends to what the top call says.
-use Rattle.std.proofs.Common.{◌≡◌, ◌≤◌, ◌<◌, ◌⊎◌, ℕ, ◌+◌, ◌-◌, List, [], ◌++◌, Option, Some, None, Result, Ok, Err, IfSome, length, take, drop, refl, sym, ap, ◌∙◌, subst, inl, inr, arith, append-nil, length-append}
+use Rattle.std.proofs.Common.{◌≡◌, ◌≤◌, ◌<◌, ◌⊎◌, ℕ, ◌+◌, ◌-◌, Bool, true, false, List, [], ◌++◌, Option, Some, None, Result, Ok, Err, IfSome, length, take, drop, refl, sym, ap, ◌∙◌, subst, inl, inr, arith, append-nil, length-append}
 use Rattle.std.proofs.lemmas.List.{take-append-le, take_all, take-append-drop}
 use Rattle.std.specs.Io.KnownBytes.{append_known}
-use Rattle.flow_ports.specs.Flow.{Rose, Takes, Gives}
+use Rattle.flow_ports.specs.Flow.{Rose, Takes, Gives, GivesPart}
 use Rattle.flow_ports.proofs.FlowLemmas.{append_known-nil, prepend_known-nil}
 use Rattle.event_model.specs.Lines.{ended}
 use Rattle.rule_ast.specs.Trees.{PlainStatement}
 use Rattle.etalis_cli.specs.Output.{Setting, start, replies, out_text}
+use Rattle.etalis_cli.specs.Modes.{reads, job_reads, setting_for, text_in, mode_text, OnInput}
 use Rattle.etalis_cli.specs.Outcome.{Served}
-use Rattle.etalis_cli.specs.Words.{PlainJob}
+use Rattle.job_words.specs.Words.{PlainJob}
+use Rattle.job_words.specs.declared.jobs.Mode.{Mode}
+use Rattle.job_words.specs.declared.jobs.Mode.TheVariants.{Run, Check, Scratch, Held, Drill}
 use Rattle.etalis_cli.specs.Rules.{Accepted, IsAccepted, IsRefused, HasNone}
 use Rattle.etalis_cli.specs.declared.refusals.FileRefusal.{FileRefusal}
-use Rattle.etalis_cli.specs.Run.{PartFor, OnRules, OnTaken, file_of, setting_for, cause_of, status_of, WasServed, Counts, Untouched, WhyNoRules, ServedBy, RunEnds, RunEnds.OutOfForm, RunEnds.NoRules, RunEnds.OverLines, IsComplete}
+use Rattle.etalis_cli.specs.Run.{PartOver, PartFor, OnRules, OnTaken, file_of, cause_of, Written, WhereServed, WrittenBy, RunEnds.OverRules, status_of, WasServed, Counts, Untouched, WhyNoRules, ServedBy, RunEnds, RunEnds.OutOfForm, RunEnds.Starved, RunEnds.NoRules, RunEnds.OverLines, IsComplete}
 use Rattle.etalis_cli.specs.declared.serving.TheConstants.{INPUT_LIMIT, MOST_PIECE_BYTES}
 use Rattle.etalis_cli.specs.declared.serving.ServeFault.{ServeFault}
 use Rattle.etalis_cli.specs.declared.serving.ServeFault.TheVariants as fault
@@ -23,6 +26,21 @@ use Rattle.etalis_cli.proofs.RuleLaws.{same_Some, one_acceptance}
 use Rattle.etalis_cli.proofs.ServeLaws.{out_begins, replies_shorter}
 
 -- ---- what is taken and written
+
+-- where the source is read, its lines are served
+served_text : (mode : Mode) (w : Setting) (bytes : List ℕ) → reads mode ≡ true → text_in mode w bytes ≡ out_text w bytes
+served_text Run w bytes e = refl
+served_text Check w bytes e = absurd (let f = e in cc)
+served_text Scratch w bytes e = refl
+served_text Held w bytes e = refl
+served_text Drill w bytes e = refl
+
+-- every mode but `Check` reads the source
+pub read_modes : (mode : Mode) → (mode ≡ Run) ⊎ ((mode ≡ Scratch) ⊎ ((mode ≡ Held) ⊎ (mode ≡ Drill))) → reads mode ≡ true
+read_modes mode (inl is) = ap reads is
+read_modes mode (inr (inl is)) = ap reads is
+read_modes mode (inr (inr (inl is))) = ap reads is
+read_modes mode (inr (inr (inr is))) = ap reads is
 
 module _ (w : Setting) where
   -- the replies to the lines of a first part are no longer than those to all
@@ -63,14 +81,16 @@ module _ (w : Setting) where
       let le : length done - MOST_PIECE_BYTES ≤ length done = omega arith in
       (omega (arith, len), ap (take (length done - MOST_PIECE_BYTES)) e ∙ take-append-le (length done - MOST_PIECE_BYTES) done ys le)
 
-  pub part_for : (r : Result (Unit {0}) ServeFault) (left left' got got' : Option (List ℕ)) (rose : Type 0) (done : List ℕ) → Served w r left left' got got' rose done → PartFor w left left' got got'
-  part_for r None left' got got' rose done s = tt
-  part_for r (Some xs) None got got' rose done s = tt
-  part_for r (Some xs) (Some ys) got got' rose done s =
+  part_over : (job : PlainJob) → reads job.mode ≡ true → (r : Result (Unit {0}) ServeFault) (left left' got got' : Option (List ℕ)) (rose : Type 0) (done : List ℕ)
+      → Served w r left left' got got' rose done → PartOver job w left left' got got'
+  part_over job reading r None left' got got' rose done s = tt
+  part_over job reading r (Some xs) None got got' rose done s = tt
+  part_over job reading r (Some xs) (Some ys) got got' rose done s =
       let e : xs ≡ done ++ ys = same_Some _ _ s.takes in
       let (count, front) = taken_is xs ys done e in
       let (n, sent, enough) = sent_part r (Some xs) got got' rose done ys s in
-      (n, sent ∙ ap (λ x. append_known got (take n (out_text w x))) (sym e), rw (count, front) enough)
+      let text : out_text w (done ++ ys) ≡ mode_text job w xs = ap (out_text w) (sym e) ∙ sym (served_text job.mode w xs reading) in
+      (n, sent ∙ ap (λ t. append_known got (take n t)) text, rw (count, front) enough)
 
   -- a run that was done wrote all
   done_text : (x : Unit {0}) (left left' got got' : Option (List ℕ)) (rose : Type 0) (taken : List ℕ) → Served w (Ok x) left left' got got' rose taken
@@ -108,25 +128,56 @@ none_taken : (left left' : Option (List ℕ)) → left' ≡ left → Takes left 
 none_taken left left' e = sym (prepend_known-nil left' ∙ e)
 
 -- nothing was taken, and nothing went out
-none_sent : (w : Setting) (left got : Option (List ℕ)) → PartFor w left left got got
-none_sent w None got = tt
-none_sent w (Some xs) got =
+none_sent : (reading : Bool) (job : PlainJob) (w : Setting) (left got : Option (List ℕ)) → PartFor reading job w left left got got
+none_sent false job w left got = (0, sym (append_known-nil got))
+none_sent true job w None got = tt
+none_sent true job w (Some xs) got =
     let none : length xs - length xs - MOST_PIECE_BYTES ≡ 0 = omega arith in
     (0, sym (append_known-nil got), subst (λ n. length (replies (start w) (ended (take n xs))) ≤ 0) (sym none) (omega arith))
 
+-- ---- by whether the source is read
+
+on_read_input : (reading : Bool) (left : Option (List ℕ)) (P : List ℕ → Type 0) → reading ≡ true → IfSome left P → OnInput reading left P
+on_read_input true left P e p = p
+on_read_input false left P e p = absurd (let f = e in cc)
+
+on_no_input : (reading : Bool) (left : Option (List ℕ)) (P : List ℕ → Type 0) → reading ≡ false → P [] → OnInput reading left P
+on_no_input false left P e p = p
+on_no_input true left P e p = absurd (let f = e in cc)
+
+input_read : (job : PlainJob) (w : Setting) (left got got' : Option (List ℕ)) → reads job.mode ≡ true
+    → IfSome left (λ bytes. Gives got got' (out_text w bytes)) → OnInput (reads job.mode) left (λ bytes. Gives got got' (mode_text job w bytes))
+input_read job w left got got' e sent = on_read_input (reads job.mode) left _ e (texts left sent)
+  where
+    texts : (left : Option (List ℕ)) → IfSome left (λ bytes. Gives got got' (out_text w bytes)) → IfSome left (λ bytes. Gives got got' (mode_text job w bytes))
+    texts None sent = tt
+    texts (Some bytes) sent = sent ∙ ap (append_known got) (sym (served_text job.mode w bytes e))
+
+input_unread : (job : PlainJob) (w : Setting) (left got got' : Option (List ℕ)) → reads job.mode ≡ false
+    → Gives got got' (mode_text job w []) → OnInput (reads job.mode) left (λ bytes. Gives got got' (mode_text job w bytes))
+input_unread job w left got got' e sent = on_no_input (reads job.mode) left (λ bytes. Gives got got' (mode_text job w bytes)) e sent
+
+part_read : (job : PlainJob) (w : Setting) (left left' got got' : Option (List ℕ)) → reads job.mode ≡ true → PartOver job w left left' got got'
+    → PartFor (reads job.mode) job w left left' got got'
+part_read job w left left' got got' e p = subst (λ b. PartFor b job w left left' got got') (sym e) p
+
+part_unread : (job : PlainJob) (w : Setting) (left left' got got' : Option (List ℕ)) → reads job.mode ≡ false → GivesPart got got' (mode_text job w [])
+    → PartFor (reads job.mode) job w left left' got got'
+part_unread job w left left' got got' e p = subst (λ b. PartFor b job w left left' got got') (sym e) p
+
 -- ---- the rules of the file
 
-on_rules : (job : PlainJob) (file : Option (List ℕ)) (rs : List PlainStatement) (P : Setting → Type 0) → IfSome file (λ f. Accepted f rs) → P (setting_for job rs)
-    → IfSome file (λ f. (rules : List PlainStatement) → Accepted f rules → P (setting_for job rules))
+on_rules : (job : PlainJob) (file : Option (List ℕ)) (rs : List PlainStatement) (P : PlainJob → Setting → Type 0) → IfSome file (λ f. Accepted f rs) → P job (setting_for job rs)
+    → IfSome file (λ f. (rules : List PlainStatement) → Accepted f rules → P job (setting_for job rules))
 on_rules job None rs P accepted p = tt
-on_rules job (Some f) rs P accepted p = λ other a. subst (λ r. P (setting_for job r)) (one_acceptance f rs other accepted a) p
+on_rules job (Some f) rs P accepted p = λ other a. subst (λ r. P job (setting_for job r)) (one_acceptance f rs other accepted a) p
 
-any_file : (job : PlainJob) (file : Option (List ℕ)) (P : Setting → Type 0) → ((w : Setting) → P w)
-    → IfSome file (λ f. (rules : List PlainStatement) → Accepted f rules → P (setting_for job rules))
+any_file : (job : PlainJob) (file : Option (List ℕ)) (P : PlainJob → Setting → Type 0) → ((job : PlainJob) (w : Setting) → P job w)
+    → IfSome file (λ f. (rules : List PlainStatement) → Accepted f rules → P job (setting_for job rules))
 any_file job None P p = tt
-any_file job (Some f) P p = λ rs accepted. p (setting_for job rs)
+any_file job (Some f) P p = λ rs accepted. p job (setting_for job rs)
 
-any_rules : (asked : Option PlainJob) (holds : List ℕ → Option (List ℕ)) (P : Setting → Type 0) → ((w : Setting) → P w) → OnRules asked holds P
+any_rules : (asked : Option PlainJob) (holds : List ℕ → Option (List ℕ)) (P : PlainJob → Setting → Type 0) → ((job : PlainJob) (w : Setting) → P job w) → OnRules asked holds P
 any_rules None holds P p = tt
 any_rules (Some job) holds P p = any_file job (holds job.rules) P p
 
@@ -174,44 +225,90 @@ module _ (file : Option (List ℕ)) (a b : ℕ) where
 
 -- ---- completeness
 
--- of a file and bytes that are told
-on_told : (file left : Option (List ℕ)) (s : Status) (shelf input out : Type 0)
-    → ((f bytes : List ℕ) → IsAccepted f → file ≡ Some f → left ≡ Some bytes → length bytes < INPUT_LIMIT → ¬ shelf → ¬ input → ¬ out → (s ≡ status.Done) ⊎ (s ≡ status.Memory))
-    → IsComplete s file left shelf input out
-on_told None left s shelf input out told = tt
-on_told (Some f) None s shelf input out told = λ accepted. tt
-on_told (Some f) (Some bytes) s shelf input out told = λ accepted few no_shelf no_input no_out. told f bytes accepted refl refl few no_shelf no_input no_out
+abbrev Ended : Status → Type 0
+Ended s = (s ≡ status.Done) ⊎ (s ≡ status.Memory)
 
-complete_why : (file left : Option (List ℕ)) (a b : ℕ) (input out : Type 0) (cause : Cause) → WhyNoRules file a b cause → IsComplete (status_of cause) file left (Rose a b) input out
-complete_why file left a b input out Done w = absurd w
-complete_why file left a b input out Usage w = absurd w
-complete_why file left a b input out (RulesRefused r) w = on_told file left _ _ input out
-    (λ f bytes accepted is told few no_shelf no_input no_out. absurd ((subst (λ o. IfSome o (λ f. IsRefused f r × HasNone f)) is w.0).1 accepted.0 accepted.1))
-complete_why file left a b input out RulesUnread w = on_told file left _ _ input out (λ f bytes accepted is told few no_shelf no_input no_out. absurd (no_shelf w))
-complete_why file left a b input out InputUnread w = absurd w
-complete_why file left a b input out WriteFault w = absurd w
-complete_why file left a b input out Memory w = on_told file left _ _ input out (λ f bytes accepted is told few no_shelf no_input no_out. inr refl)
-complete_why file left a b input out TooLong w = absurd w
+on_served : (reading : Bool) (left : Option (List ℕ)) (input P : Type 0)
+    → ((bytes : List ℕ) → reading ≡ true → left ≡ Some bytes → length bytes < INPUT_LIMIT → ¬ input → P) → (reading ≡ false → P)
+    → WhereServed reading left input P
+on_served false left input P served unserved = unserved refl
+on_served true None input P served unserved = tt
+on_served true (Some bytes) input P served unserved = λ few no_input. served bytes refl refl few no_input
+
+all_ended : (reading : Bool) (left : Option (List ℕ)) (input P : Type 0) → P → WhereServed reading left input P
+all_ended reading left input P p = on_served reading left input P (λ bytes reading told few no_input. p) (λ unread. p)
+
+-- of a file that is told
+on_told : (file left : Option (List ℕ)) (reading : Bool) (s : Status) (shelf input out : Type 0)
+    → ((f : List ℕ) → IsAccepted f → file ≡ Some f → ¬ shelf → ¬ out → WhereServed reading left input (Ended s))
+    → IsComplete s file reading left shelf input out
+on_told None left reading s shelf input out told = tt
+on_told (Some f) left reading s shelf input out told = λ accepted no_shelf no_out. told f accepted refl no_shelf no_out
+
+complete_why : (file left : Option (List ℕ)) (reading : Bool) (a b : ℕ) (input out : Type 0) (cause : Cause) → WhyNoRules file a b cause
+    → IsComplete (status_of cause) file reading left (Rose a b) input out
+complete_why file left reading a b input out Done w = absurd w
+complete_why file left reading a b input out Usage w = absurd w
+complete_why file left reading a b input out (RulesRefused r) w = on_told file left reading _ _ input out
+    (λ f accepted is no_shelf no_out. absurd ((subst (λ o. IfSome o (λ f. IsRefused f r × HasNone f)) is w.0).1 accepted.0 accepted.1))
+complete_why file left reading a b input out RulesUnread w = on_told file left reading _ _ input out (λ f accepted is no_shelf no_out. absurd (no_shelf w))
+complete_why file left reading a b input out InputUnread w = absurd w
+complete_why file left reading a b input out WriteFault w = absurd w
+complete_why file left reading a b input out Memory w = on_told file left reading _ _ input out
+    (λ f accepted is no_shelf no_out. all_ended reading left input (Ended status.Memory) (inr refl))
+complete_why file left reading a b input out TooLong w = absurd w
 
 -- ---- how a run ends
 
-module _ (asked : Option PlainJob) (holds : List ℕ → Option (List ℕ)) (intact : Type 0) (left left' got got' : Option (List ℕ)) (before now : Counts) where
+module _ (asked : Option PlainJob) (holds : List ℕ → Option (List ℕ)) (unread intact : Type 0) (left left' got got' : Option (List ℕ)) (before now : Counts) where
   -- what holds of the rules that were read
-  on_read : (r : Result (Unit {0}) ServeFault) (s : ServedBy asked holds r left left' got got' before now) (P : Setting → Type 0) → P (setting_for s.job s.rules) → OnRules asked holds P
+  on_read : (r : Result (Unit {0}) ServeFault) (s : ServedBy asked holds r left left' got got' before now) (P : PlainJob → Setting → Type 0)
+      → P s.job (setting_for s.job s.rules) → OnRules asked holds P
   on_read r s P p = subst (λ a. OnRules a holds P) (sym s.asks) (on_rules s.job (holds s.job.rules) s.rules P s.accepted p)
 
-  complete_over : (r : Result (Unit {0}) ServeFault) → ServedBy asked holds r left left' got got' before now
-      → IsComplete (status_of (cause_of r)) (file_of asked holds) left (Rose before.shelf now.shelf) (Rose before.source now.source) (Rose before.sink now.sink)
-  complete_over (Ok x) s = on_told _ left _ _ _ _ (λ f bytes accepted is told few no_shelf no_input no_out. inl refl)
-  complete_over (Err fault.Read) s = on_told _ left _ _ _ _ (λ f bytes accepted is told few no_shelf no_input no_out. absurd (no_input s.counts.0))
-  complete_over (Err fault.Write) s = on_told _ left _ _ _ _ (λ f bytes accepted is told few no_shelf no_input no_out. absurd (no_out s.counts.1))
-  complete_over (Err fault.Memory) s = on_told _ left _ _ _ _ (λ f bytes accepted is told few no_shelf no_input no_out. inr refl)
-  complete_over (Err fault.TooLong) s = on_told _ left _ _ _ _ (λ f bytes accepted is told few no_shelf no_input no_out.
+  on_unread : (r : Result (Unit {0}) ServeFault) (s : WrittenBy asked holds unread r left left' got got' before now) (P : PlainJob → Setting → Type 0)
+      → P s.job (setting_for s.job s.rules) → OnRules asked holds P
+  on_unread r s P p = subst (λ a. OnRules a holds P) (sym s.asks) (on_rules s.job (holds s.job.rules) s.rules P s.accepted p)
+
+  abbrev IsCompleteFor : Cause → Type 0
+  IsCompleteFor cause = IsComplete (status_of cause) (file_of asked holds) (job_reads asked) left
+      (Rose before.shelf now.shelf) (Rose before.source now.source) (Rose before.sink now.sink)
+
+  complete_over : (r : Result (Unit {0}) ServeFault) → ServedBy asked holds r left left' got got' before now → IsCompleteFor (cause_of r)
+  complete_over (Ok x) s = on_told _ left _ _ _ _ _ (λ f accepted is no_shelf no_out. all_ended _ left _ (Ended status.Done) (inl refl))
+  complete_over (Err fault.Read) s = on_told _ left _ _ _ _ _ (λ f accepted is no_shelf no_out. on_served (job_reads asked) left _ (Ended status.ReadFault)
+      (λ bytes reading told few no_input. absurd (no_input s.counts.0)) (λ unread. absurd (let a = ap job_reads s.asks in let b = s.reading in cc)))
+  complete_over (Err fault.Write) s = on_told _ left _ _ _ _ _ (λ f accepted is no_shelf no_out. absurd (no_out s.counts.1))
+  complete_over (Err fault.Memory) s = on_told _ left _ _ _ _ _ (λ f accepted is no_shelf no_out. all_ended _ left _ (Ended status.Memory) (inr refl))
+  complete_over (Err fault.TooLong) s = on_told _ left _ _ _ _ _ (λ f accepted is no_shelf no_out. on_served (job_reads asked) left _ (Ended status.TooLong)
+      (λ bytes reading told few no_input.
       let long = subst (λ o. IfSome o (λ b. INPUT_LIMIT ≤ length b)) told (long_input left left' s.taken s.served.takes s.served.ends.0) in absurd (omega (arith, few, long)))
+      (λ unread. absurd (let a = ap job_reads s.asks in let b = s.reading in cc)))
+
+  complete_rules : (r : Result (Unit {0}) ServeFault) → WrittenBy asked holds unread r left left' got got' before now → IsCompleteFor (cause_of r)
+  complete_rules (Ok x) s = on_told _ left _ _ _ _ _ (λ f accepted is no_shelf no_out. all_ended _ left _ (Ended status.Done) (inl refl))
+  complete_rules (Err fault.Read) s = absurd s.written
+  complete_rules (Err fault.Write) s = on_told _ left _ _ _ _ _ (λ f accepted is no_shelf no_out. absurd (no_out s.counts.1))
+  complete_rules (Err fault.Memory) s = on_told _ left _ _ _ _ _ (λ f accepted is no_shelf no_out. all_ended _ left _ (Ended status.Memory) (inr refl))
+  complete_rules (Err fault.TooLong) s = absurd s.written
+
+  -- a first part of a text that was written without the source
+  written_part : (r : Result (Unit {0}) ServeFault) (text : List ℕ) → Written r got got' text → GivesPart got got' text
+  written_part (Ok x) text w =
+      let le : length text ≤ length text = omega arith in
+      (length text, w ∙ ap (append_known got) (sym (take_all (length text) text le)))
+  written_part (Err fault.Read) text w = absurd w
+  written_part (Err fault.Write) text w = w
+  written_part (Err fault.Memory) text w = w
+  written_part (Err fault.TooLong) text w = absurd w
 
   -- a run over lines that ended with a status, by the result that has it
   as_result : (r q : Result (Unit {0}) ServeFault) → ServedBy asked holds r left left' got got' before now → r ≡ q → ServedBy asked holds q left left' got got' before now
   as_result r q s e = subst (λ x. ServedBy asked holds x left left' got got' before now) e s
+
+  as_written : (r q : Result (Unit {0}) ServeFault) → WrittenBy asked holds unread r left left' got got' before now → r ≡ q
+      → WrittenBy asked holds unread q left left' got got' before now
+  as_written r q s e = subst (λ x. WrittenBy asked holds unread x left left' got got' before now) e s
 
   module _ (cause : Cause) where
     over : (r : Result (Unit {0}) ServeFault) (s : Status) → cause ≡ cause_of r → status_of cause ≡ s → status_of (cause_of r) ≡ s
@@ -219,50 +316,65 @@ module _ (asked : Option PlainJob) (holds : List ℕ → Option (List ℕ)) (int
 
     -- ---- what is written
 
-    pub done : RunEnds asked holds intact left left' got got' before now cause → status_of cause ≡ status.Done
-        → OnRules asked holds (λ w. IfSome left (λ bytes. Gives got got' (out_text w bytes)))
+    pub done : RunEnds asked holds unread intact left left' got got' before now cause → status_of cause ≡ status.Done
+        → OnRules asked holds (λ job w. OnInput (reads job.mode) left (λ bytes. Gives got got' (mode_text job w bytes)))
     done (OutOfForm none is shelf same) e = absurd (let f = ap status_of (sym is) ∙ e in cc)
+    done (Starved is shelf same) e = absurd (let f = ap status_of (sym is) ∙ e in cc)
     done (NoRules some why same) e = absurd (why_unserved _ _ _ cause why (subst WasServed (sym e) tt))
     done (OverLines r is s) e =
         let t = as_result r (Ok tt) s (is_done r (over r status.Done is e)) in
-        on_read (Ok tt) t _ (done_text (setting_for t.job t.rules) tt left left' got got' _ t.taken t.served)
+        on_read (Ok tt) t _ (input_read t.job (setting_for t.job t.rules) left got got' t.reading
+        (done_text (setting_for t.job t.rules) tt left left' got got' _ t.taken t.served))
+    done (OverRules r is s) e =
+        let t = as_written r (Ok tt) s (is_done r (over r status.Done is e)) in
+        on_unread (Ok tt) t _ (input_unread t.job (setting_for t.job t.rules) left got got' t.reading t.written)
 
-    untouched_part : Untouched intact left left' got got' before now → OnRules asked holds (λ w. PartFor w left left' got got')
-    untouched_part same = any_rules asked holds _ (λ w. subst (λ l. PartFor w left l got got') (sym same.same_left) (subst (λ g. PartFor w left left got g) (sym same.same_got) (none_sent w left got)))
+    untouched_part : Untouched intact left left' got got' before now → OnRules asked holds (λ job w. PartFor (reads job.mode) job w left left' got got')
+    untouched_part same = any_rules asked holds _ (λ job w. subst (λ l. PartFor (reads job.mode) job w left l got got') (sym same.same_left)
+        (subst (λ g. PartFor (reads job.mode) job w left left got g) (sym same.same_got) (none_sent (reads job.mode) job w left got)))
 
-    pub part : RunEnds asked holds intact left left' got got' before now cause → OnRules asked holds (λ w. PartFor w left left' got got')
+    pub part : RunEnds asked holds unread intact left left' got got' before now cause → OnRules asked holds (λ job w. PartFor (reads job.mode) job w left left' got got')
     part (OutOfForm none is shelf same) = untouched_part same
+    part (Starved is shelf same) = untouched_part same
     part (NoRules some why same) = untouched_part same
-    part (OverLines r is s) = on_read r s _ (part_for (setting_for s.job s.rules) r left left' got got' _ s.taken s.served)
+    part (OverLines r is s) = on_read r s _ (part_read s.job (setting_for s.job s.rules) left left' got got' s.reading
+        (part_over (setting_for s.job s.rules) s.job s.reading r left left' got got' _ s.taken s.served))
+    part (OverRules r is s) = on_unread r s _ (part_unread s.job (setting_for s.job s.rules) left left' got got' s.reading
+        (written_part r (mode_text s.job (setting_for s.job s.rules) []) s.written))
 
     untouched_replied : Untouched intact left left' got got' before now
-        → OnRules asked holds (λ w. OnTaken left left' (λ taken. Gives got got' (replies (start w) (ended taken))))
-    untouched_replied same = any_rules asked holds _ (λ w. on_taken left left' [] _ (none_taken left left' same.same_left) (same.same_got ∙ sym (append_known-nil got)))
+        → OnRules asked holds (λ job w. OnTaken left left' (λ taken. Gives got got' (replies (start w) (ended taken))))
+    untouched_replied same = any_rules asked holds _ (λ job w. on_taken left left' [] _ (none_taken left left' same.same_left) (same.same_got ∙ sym (append_known-nil got)))
 
-    pub replied : RunEnds asked holds intact left left' got got' before now cause → status_of cause ≡ status.ReadFault
-        → OnRules asked holds (λ w. OnTaken left left' (λ taken. Gives got got' (replies (start w) (ended taken))))
+    pub replied : RunEnds asked holds unread intact left left' got got' before now cause → status_of cause ≡ status.ReadFault
+        → OnRules asked holds (λ job w. OnTaken left left' (λ taken. Gives got got' (replies (start w) (ended taken))))
     replied (OutOfForm none is shelf same) e = untouched_replied same
+    replied (Starved is shelf same) e = untouched_replied same
     replied (NoRules some why same) e = untouched_replied same
     replied (OverLines r is s) e =
         let t = as_result r (Err fault.Read) s (is_read r (over r status.ReadFault is e)) in
         on_read (Err fault.Read) t _ (on_taken left left' t.taken _ t.served.takes t.served.ends.1)
+    replied (OverRules r is s) e = absurd (as_written r (Err fault.Read) s (is_read r (over r status.ReadFault is e))).written
 
     long_over : ServedBy asked holds (Err fault.TooLong) left left' got got' before now
-        → Rose before.sink now.sink ⊎ OnRules asked holds (λ w. OnTaken left left' (λ taken. Gives got got' (replies (start w) (ended taken))))
+        → Rose before.sink now.sink ⊎ OnRules asked holds (λ job w. OnTaken left left' (λ taken. Gives got got' (replies (start w) (ended taken))))
     long_over t = elim t.served.ends.2 [ inl rose ↦ inl rose | inr sent ↦ inr (on_read (Err fault.TooLong) t _ (on_taken left left' t.taken _ t.served.takes sent)) ]
 
-    pub long_replied : RunEnds asked holds intact left left' got got' before now cause → status_of cause ≡ status.TooLong
-        → Rose before.sink now.sink ⊎ OnRules asked holds (λ w. OnTaken left left' (λ taken. Gives got got' (replies (start w) (ended taken))))
+    pub long_replied : RunEnds asked holds unread intact left left' got got' before now cause → status_of cause ≡ status.TooLong
+        → Rose before.sink now.sink ⊎ OnRules asked holds (λ job w. OnTaken left left' (λ taken. Gives got got' (replies (start w) (ended taken))))
     long_replied (OutOfForm none is shelf same) e = inr (untouched_replied same)
+    long_replied (Starved is shelf same) e = inr (untouched_replied same)
     long_replied (NoRules some why same) e = inr (untouched_replied same)
     long_replied (OverLines r is s) e = long_over (as_result r (Err fault.TooLong) s (is_long r (over r status.TooLong is e)))
+    long_replied (OverRules r is s) e = absurd (as_written r (Err fault.TooLong) s (is_long r (over r status.TooLong is e))).written
 
     -- ---- completeness
 
-    pub complete : RunEnds asked holds intact left left' got got' before now cause
-        → IsComplete (status_of cause) (file_of asked holds) left (Rose before.shelf now.shelf) (Rose before.source now.source) (Rose before.sink now.sink)
+    pub complete : RunEnds asked holds unread intact left left' got got' before now cause → IsCompleteFor cause
     complete (OutOfForm none is shelf same) =
-        subst (λ a. IsComplete (status_of cause) (file_of a holds) left (Rose before.shelf now.shelf) (Rose before.source now.source) (Rose before.sink now.sink)) (sym none) tt
-    complete (NoRules some why same) = complete_why (file_of asked holds) left before.shelf now.shelf _ _ cause why
-    complete (OverLines r is s) =
-        subst (λ c. IsComplete (status_of c) (file_of asked holds) left (Rose before.shelf now.shelf) (Rose before.source now.source) (Rose before.sink now.sink)) (sym is) (complete_over r s)
+        subst (λ a. IsComplete (status_of cause) (file_of a holds) (job_reads a) left (Rose before.shelf now.shelf) (Rose before.source now.source) (Rose before.sink now.sink)) (sym none) tt
+    complete (Starved is shelf same) = complete_why (file_of asked holds) left (job_reads asked) before.shelf now.shelf _ _ cause
+        (subst (WhyNoRules (file_of asked holds) before.shelf now.shelf) (sym is) shelf)
+    complete (NoRules some why same) = complete_why (file_of asked holds) left (job_reads asked) before.shelf now.shelf _ _ cause why
+    complete (OverLines r is s) = subst IsCompleteFor (sym is) (complete_over r s)
+    complete (OverRules r is s) = subst IsCompleteFor (sym is) (complete_rules r s)

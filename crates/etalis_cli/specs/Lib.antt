@@ -5,5 +5,6 @@ pub mod Outcome
 pub mod Rules
 pub mod Replying
 pub mod Words
+pub mod Modes
 pub mod Run
 pub mod Headline

@@ -1,13 +1,14 @@
 -- What the top call says.
-use Rattle.std.specs.Prelude.{◌≡◌, ◌≢◌, ℕ, ◌<◌, ◌≤◌, ◌-◌, ◌⊎◌, Bool, true, List, [], Option, Some, None, Result, Ok, Err, IfSome, length, take, codes, ⊤}
+use Rattle.std.specs.Prelude.{◌≡◌, ◌≢◌, ℕ, ◌<◌, ◌≤◌, ◌-◌, ◌⊎◌, Bool, true, false, List, [], Option, Some, None, Result, Ok, Err, IfSome, length, take, codes, ⊤}
 use Rattle.flow_ports.specs.Flow.{Rose, Gives, GivesPart}
 use Rattle.event_model.specs.Lines.{ended}
 use Rattle.rule_ast.specs.Trees.{PlainStatement}
 use Rattle.rule_ast.specs.Plain.{plain_rules}
 use Rattle.rule_ast.specs.declared.statements.RuleSet.{RuleSet}
-use Rattle.etalis_cli.specs.Output.{Setting, start, replies, out_text}
+use Rattle.etalis_cli.specs.Output.{Setting, start, replies}
+use Rattle.etalis_cli.specs.Modes.{reads, setting_for, mode_text}
 use Rattle.etalis_cli.specs.Outcome.{Served, Counted}
-use Rattle.etalis_cli.specs.Words.{PlainJob}
+use Rattle.job_words.specs.Words.{PlainJob}
 use Rattle.etalis_cli.specs.Rules.{Accepted, IsAccepted, HasNone, IsRefused, refusal_note}
 use Rattle.etalis_cli.specs.declared.refusals.FileRefusal.{FileRefusal}
 use Rattle.etalis_cli.specs.declared.serving.TheConstants.{INPUT_LIMIT, MOST_PIECE_BYTES}
@@ -17,7 +18,6 @@ use Rattle.etalis_cli.specs.declared.status.Status.{Status}
 use Rattle.etalis_cli.specs.declared.status.Status.TheVariants as status
 use Rattle.etalis_cli.specs.declared.status.Cause.{Cause}
 use Rattle.etalis_cli.specs.declared.status.Cause.TheVariants.{Done, Usage, RulesRefused, RulesUnread, InputUnread, WriteFault, Memory, TooLong}
-use Rattle.etalis_cli.specs.declared.voices.Voice.TheVariants.{Replies}
 
 -- ---- what the words ask for
 
@@ -31,15 +31,11 @@ abbrev pub MayAsk : Option PlainJob → (List ℕ → Bool) → Type 0
 MayAsk None serves = ⊤
 MayAsk (Some job) serves = serves job.rules ≡ true
 
--- what a job runs with, by the rules of its file; each job that the words can ask for is a run
-abbrev pub setting_for : PlainJob → List PlainStatement → Setting
-setting_for job rules = record { rules = rules; late = job.late; voice = Replies }
-
--- P holds of what the job runs with, where its file is told and accepted
-abbrev pub OnRules : Option PlainJob → (List ℕ → Option (List ℕ)) → (Setting → Type 0) → Type 0
+-- P holds of the job and of what it runs with, where its file is told and accepted
+abbrev pub OnRules : Option PlainJob → (List ℕ → Option (List ℕ)) → (PlainJob → Setting → Type 0) → Type 0
 OnRules None holds P = ⊤
 OnRules (Some job) holds P =
-    IfSome (holds job.rules) (λ file. (rules : List PlainStatement) → Accepted file rules → P (setting_for job rules))
+    IfSome (holds job.rules) (λ file. (rules : List PlainStatement) → Accepted file rules → P job (setting_for job rules))
 
 -- ---- what is taken and written
 
@@ -50,11 +46,16 @@ OnTaken (Some xs) None P = ⊤
 OnTaken (Some xs) (Some ys) P = P (take (length xs - length ys) xs)
 
 -- A first part of the whole output went out, with the replies to all lines whose line feed is among the bytes taken but the last piece's.
-abbrev pub PartFor : Setting → Option (List ℕ) → Option (List ℕ) → Option (List ℕ) → Option (List ℕ) → Type 0
-PartFor w None left' got got' = ⊤
-PartFor w (Some xs) None got got' = ⊤
-PartFor w (Some xs) (Some ys) got got' = (n : ℕ) × Gives got got' (take n (out_text w xs))
+abbrev pub PartOver : PlainJob → Setting → Option (List ℕ) → Option (List ℕ) → Option (List ℕ) → Option (List ℕ) → Type 0
+PartOver job w None left' got got' = ⊤
+PartOver job w (Some xs) None got got' = ⊤
+PartOver job w (Some xs) (Some ys) got got' = (n : ℕ) × Gives got got' (take n (mode_text job w xs))
     × (length (replies (start w) (ended (take (length xs - length ys - MOST_PIECE_BYTES) xs))) ≤ n)
+
+-- a first part of the whole output went out, by whether the source is read
+abbrev pub PartFor : Bool → PlainJob → Setting → Option (List ℕ) → Option (List ℕ) → Option (List ℕ) → Option (List ℕ) → Type 0
+PartFor true job w left left' got got' = PartOver job w left left' got got'
+PartFor false job w left left' got got' = GivesPart got got' (mode_text job w [])
 
 -- ---- how a run ends, by its cause
 
@@ -103,23 +104,52 @@ pub record ServedBy (asked : Option PlainJob) (holds : List ℕ → Option (List
   pub rules : List PlainStatement
   pub taken : List ℕ
   pub asks : asked ≡ Some job
+  pub reading : reads job.mode ≡ true
   pub accepted : IfSome (holds job.rules) (λ file. Accepted file rules)
   pub served : Served (setting_for job rules) result left left' got got' (Rose before.sink now.sink) taken
   pub shelf : now.shelf ≡ before.shelf
   pub counts : Counted result before.source now.source before.sink now.sink
 
--- The words are out of form; or no rules were read of the job's file; or its lines were served by them. In the first two cases
--- neither the source nor the output was asked for anything.
-pub data RunEnds (asked : Option PlainJob) (holds : List ℕ → Option (List ℕ)) (intact : Type 0)
+-- the whole text went out, or some first part of it; the source has no part in it
+abbrev pub Written : Result (Unit {0}) ServeFault → Option (List ℕ) → Option (List ℕ) → List ℕ → Type 0
+Written (Ok _) got got' text = Gives got got' text
+Written (Err fault.Read) got got' text = ⊥
+Written (Err fault.Write) got got' text = GivesPart got got' text
+Written (Err fault.Memory) got got' text = GivesPart got got' text
+Written (Err fault.TooLong) got got' text = ⊥
+
+-- the rules of the job's file were read, and its text was written by them; the source is the very same, which `unread` says
+pub record WrittenBy (asked : Option PlainJob) (holds : List ℕ → Option (List ℕ)) (unread : Type 0) (result : Result (Unit {0}) ServeFault)
+    (left left' got got' : Option (List ℕ)) (before now : Counts) : Type 0 where
+  pub job : PlainJob
+  pub rules : List PlainStatement
+  pub asks : asked ≡ Some job
+  pub reading : reads job.mode ≡ false
+  pub accepted : IfSome (holds job.rules) (λ file. Accepted file rules)
+  pub written : Written result got got' (mode_text job (setting_for job rules) [])
+  pub very_same : unread
+  pub same_left : left' ≡ left
+  pub shelf : now.shelf ≡ before.shelf
+  pub counts : Counted result before.source now.source before.sink now.sink
+
+-- The words are out of form; or memory failed before they were read; or no rules were read of the job's file; or its text was written
+-- without the source; or its lines were served. In all cases but the last the source wasn't asked for anything, nor the output in the
+-- first three.
+pub data RunEnds (asked : Option PlainJob) (holds : List ℕ → Option (List ℕ)) (unread intact : Type 0)
     (left left' got got' : Option (List ℕ)) (before now : Counts) (cause : Cause) : Type 0 where
   OutOfForm : asked ≡ None → cause ≡ Usage → now.shelf ≡ before.shelf → Untouched intact left left' got got' before now
-      → RunEnds asked holds intact left left' got got' before now cause
+      → RunEnds asked holds unread intact left left' got got' before now cause
+  Starved : cause ≡ Memory → now.shelf ≡ before.shelf → Untouched intact left left' got got' before now
+      → RunEnds asked holds unread intact left left' got got' before now cause
   NoRules : asked ≢ None → WhyNoRules (file_of asked holds) before.shelf now.shelf cause
       → Untouched intact left left' got got' before now
-      → RunEnds asked holds intact left left' got got' before now cause
+      → RunEnds asked holds unread intact left left' got got' before now cause
+  OverRules : (result : Result (Unit {0}) ServeFault) → cause ≡ cause_of result
+      → WrittenBy asked holds unread result left left' got got' before now
+      → RunEnds asked holds unread intact left left' got got' before now cause
   OverLines : (result : Result (Unit {0}) ServeFault) → cause ≡ cause_of result
       → ServedBy asked holds result left left' got got' before now
-      → RunEnds asked holds intact left left' got got' before now cause
+      → RunEnds asked holds unread intact left left' got got' before now cause
 
 -- ---- statuses
 
@@ -173,10 +203,16 @@ pub record NoneFell (before now : Counts) : Type 0 where
   pub source : before.source ≤ now.source
   pub sink : before.sink ≤ now.sink
 
--- A file that is told and accepted, with fewer bytes of input than the limit, and no count that rose, gives `Done`, unless memory fails.
-abbrev pub IsComplete : Status → Option (List ℕ) → Option (List ℕ) → Type 0 → Type 0 → Type 0 → Type 0
-IsComplete s file left shelf input out = IfSome file (λ f. IsAccepted f
-    → IfSome left (λ bytes. length bytes < INPUT_LIMIT → ¬ shelf → ¬ input → ¬ out → (s ≡ status.Done) ⊎ (s ≡ status.Memory)))
+-- P holds, if the source is told with fewer bytes than the limit, and its count didn't rise, where it is read; else without more
+abbrev pub WhereServed : Bool → Option (List ℕ) → Type 0 → Type 0 → Type 0
+WhereServed true left input P = IfSome left (λ bytes. length bytes < INPUT_LIMIT → ¬ input → P)
+WhereServed false left input P = P
+
+-- A file that is told and accepted, with fewer bytes of input than the limit where the source is read, and no count that rose, gives
+-- `Done`, unless memory fails.
+abbrev pub IsComplete : Status → Option (List ℕ) → Bool → Option (List ℕ) → Type 0 → Type 0 → Type 0 → Type 0
+IsComplete s file reading left shelf input out = IfSome file (λ f. IsAccepted f → ¬ shelf → ¬ out
+    → WhereServed reading left input ((s ≡ status.Done) ⊎ (s ≡ status.Memory)))
 
 -- ---- notes
 

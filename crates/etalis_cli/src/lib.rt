@@ -3,6 +3,7 @@
 
 mod accepting;
 mod feeding;
+mod jobs;
 mod laws;
 mod notes;
 mod refusals;
@@ -12,13 +13,13 @@ mod session;
 mod status;
 mod top;
 mod voices;
-mod words;
 
 pub use accepting::{MOST_FILE_BYTES, files_have_one_meaning};
+pub use job_words::{Job, Mode, WordsFault, run_words};
+pub use jobs::jobs_are_as_written;
 pub use laws::what_is_written_stands;
 pub use serving::{INPUT_LIMIT, MOST_PIECE_BYTES, ServeFault, serve};
 pub use session::Session;
 pub use status::{Status, exit_code};
 pub use top::run;
 pub use voices::Voice;
-pub use words::{Job, Mode, WordsFault, run_words};

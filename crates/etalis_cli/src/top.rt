@@ -1,25 +1,29 @@
 // The top call.
-ghost use Rattle.std.specs.Prelude.{◌≡◌, ◌<◌, ◌≤◌, ◌↔◌, ◌⊎◌, ℕ, List, None, true, IfSome, length};
+ghost use Rattle.std.specs.Prelude.{◌≡◌, ◌<◌, ◌≤◌, ◌⊎◌, ℕ, List, None, true, false, IfSome, length};
 ghost use Rattle.flow_ports.specs.Flow.{Rose, Takes, Gives, GivesPart, IsAtEnd};
 ghost use Rattle.event_model.specs.Lines.{ended};
 ghost use Rattle.event_model.specs.declared.events.TheConstants.{TIME_LIMIT};
 ghost use Rattle.rule_ast.specs.Plain.{plain_rules};
-ghost use Rattle.etalis_cli.specs.Output.{start, replies, out_text};
+ghost use Rattle.rule_writer.specs.Canonical.{canonical};
+ghost use Rattle.etalis_cli.specs.Output.{start, replies};
+ghost use Rattle.etalis_cli.specs.Modes.{reads, job_reads, mode_text, OnInput};
 ghost use Rattle.etalis_cli.specs.Outcome.{Served, Counted};
 ghost use Rattle.etalis_cli.specs.Rules.{IsAccepted, HasNone};
 ghost use Rattle.etalis_cli.specs.Words.{form};
-ghost use Rattle.etalis_cli.specs.Run.{cause_of, RulesRead, RunEnds, CountsAt, NoneFell, IsNoteOf, PartFor, file_of, MayAsk, OnRules, OnTaken, WasServed, IsComplete};
+ghost use Rattle.etalis_cli.specs.Run.{cause_of, Written, RulesRead, RunEnds, CountsAt, NoneFell, IsNoteOf, PartFor, file_of, MayAsk, OnRules, OnTaken, WasServed, IsComplete};
 
 use crate::accepting::{AcceptFault, MOST_FILE_BYTES, accept};
+use crate::jobs::read_job;
 use crate::notes::tell;
 use crate::refusals::FileRefusal;
 use crate::serving::{INPUT_LIMIT, ServeFault, serve};
 use crate::session::Session;
 use crate::status::{Cause, Status, status_of};
 use crate::voices::Voice;
-use crate::words::{WordsFault, run_words};
-use flow_ports::{Shelf, Sink, Source, WholeFault, read_whole};
+use flow_ports::{Failed, Shelf, Sink, Source, WholeFault, read_whole, write_whole};
+use job_words::{Mode, WordsFault};
 use rule_check::Checked;
+use rule_writer::rules_text;
 use std::alloc::Global;
 
 // Reads the rule file. An `Err` is the cause to end with.
@@ -71,6 +75,18 @@ fn serve_rules<I: Source, O: Sink>(
     serve(alloc, &mut session, input, out)
 }
 
+// Writes the canonical text of the rules.
+fn write_rules<O: Sink>(alloc: Global, rules: &Checked, out: &mut O) -> Result<(), ServeFault>
+    ensures written { Written result (O.got out.old) (O.got out.new) (canonical (plain_rules rules.now)) }
+    ensures counts { (n : ℕ) → Counted result n n (O.faults out.old) (O.faults out.new) }
+{
+    let text = rules_text(alloc, rules.rules())?;
+    match write_whole(out, &text) {
+        Ok(()) => Ok(()),
+        Err(Failed) => Err(ServeFault::Write),
+    }
+}
+
 // All of a run but its note.
 fn work<S: Shelf, I: Source, O: Sink>(
     alloc: Global,
@@ -80,12 +96,12 @@ fn work<S: Shelf, I: Source, O: Sink>(
     out: &mut O,
 ) -> Cause
     requires { MayAsk (form words.now) (S.serves shelf.old) }
-    ensures { RunEnds (form words.now) (S.holds shelf.old) ((input.new ≡ input.old) × (out.new ≡ out.old))
+    ensures { RunEnds (form words.now) (S.holds shelf.old) (input.new ≡ input.old) ((input.new ≡ input.old) × (out.new ≡ out.old))
         (I.left input.old) (I.left input.new) (O.got out.old) (O.got out.new)
         record { shelf = S.faults shelf.old; source = I.faults input.old; sink = O.faults out.old }
         record { shelf = S.faults shelf.new; source = I.faults input.new; sink = O.faults out.new } result }
 {
-    let job = match run_words(alloc, words) {
+    let job = match read_job(alloc, words) {
         Ok(job) => job,
         Err(WordsFault::Usage) => return Cause::Usage,
         Err(WordsFault::Memory) => return Cause::Memory,
@@ -94,7 +110,12 @@ fn work<S: Shelf, I: Source, O: Sink>(
         Ok(rules) => rules,
         Err(cause) => return cause,
     };
-    cause_of(serve_rules(alloc, rules, job.late, Voice::Replies, input, out))
+    match job.mode {
+        Mode::Check => cause_of(write_rules(alloc, &rules, out)),
+        Mode::Run | Mode::Scratch | Mode::Held | Mode::Drill => {
+            cause_of(serve_rules(alloc, rules, job.late, Voice::Replies, input, out))
+        }
+    }
 }
 
 /// Reads the rule file and the lines, and writes the replies. A note says why the run ended, where
@@ -110,25 +131,28 @@ pub fn run<S: Shelf, I: Source, O: Sink, N: Sink>(
     requires { MayAsk (form words.now) (S.serves shelf.old) }
 
     // What is written.
-    ensures done { result ≡ Status.Done → OnRules (form words.now) (S.holds shelf.old) (λ w.
-        IfSome (I.left input.old) (λ bytes. Gives (O.got out.old) (O.got out.new) (out_text w bytes))) }
-    ensures part { OnRules (form words.now) (S.holds shelf.old) (λ w.
-        PartFor w (I.left input.old) (I.left input.new) (O.got out.old) (O.got out.new)) }
-    ensures replied { result ≡ Status.ReadFault → OnRules (form words.now) (S.holds shelf.old) (λ w.
+    ensures done { result ≡ Status.Done → OnRules (form words.now) (S.holds shelf.old) (λ job w.
+        OnInput (reads job.mode) (I.left input.old) (λ bytes. Gives (O.got out.old) (O.got out.new) (mode_text job w bytes))) }
+    ensures part { OnRules (form words.now) (S.holds shelf.old) (λ job w.
+        PartFor (reads job.mode) job w (I.left input.old) (I.left input.new) (O.got out.old) (O.got out.new)) }
+    ensures replied { result ≡ Status.ReadFault → OnRules (form words.now) (S.holds shelf.old) (λ job w.
         OnTaken (I.left input.old) (I.left input.new) (λ taken.
         Gives (O.got out.old) (O.got out.new) (replies (start w) (ended taken)))) }
     ensures long_replied { result ≡ Status.TooLong → Rose (O.faults out.old) (O.faults out.new)
-        ⊎ OnRules (form words.now) (S.holds shelf.old) (λ w.
+        ⊎ OnRules (form words.now) (S.holds shelf.old) (λ job w.
         OnTaken (I.left input.old) (I.left input.new) (λ taken.
         Gives (O.got out.old) (O.got out.new) (replies (start w) (ended taken)))) }
 
     // What is taken of the source.
     ensures taken { (bytes : List ℕ) × Takes (I.left input.old) (I.left input.new) bytes }
-    ensures read_to_end { result ≡ Status.Done → IsAtEnd (I.left input.new) }
+    ensures read_to_end { result ≡ Status.Done → job_reads (form words.now) ≡ true → IsAtEnd (I.left input.new) }
     ensures too_long { result ≡ Status.TooLong
         → OnTaken (I.left input.old) (I.left input.new) (λ taken. INPUT_LIMIT ≤ length taken) }
     ensures no_longer { OnTaken (I.left input.old) (I.left input.new) (λ taken. INPUT_LIMIT ≤ length taken
         → (result ≡ Status.TooLong) ⊎ (result ≡ Status.Memory)) }
+
+    // Where the source isn't touched.
+    ensures source_unread { job_reads (form words.now) ≡ false → input.new ≡ input.old }
 
     // Where neither the source nor the output is touched.
     ensures no_form { form words.now ≡ None → (input.new ≡ input.old) × (out.new ≡ out.old) }
@@ -138,7 +162,8 @@ pub fn run<S: Shelf, I: Source, O: Sink, N: Sink>(
         → (input.new ≡ input.old) × (out.new ≡ out.old) }
 
     // Which status comes when.
-    ensures usage { (result ≡ Status.Usage) ↔ (form words.now ≡ None) }
+    ensures usage { result ≡ Status.Usage → form words.now ≡ None }
+    ensures out_of_form { form words.now ≡ None → (result ≡ Status.Usage) ⊎ (result ≡ Status.Memory) }
     ensures refused { result ≡ Status.RulesRefused
         → IfSome (file_of (form words.now) (S.holds shelf.old)) HasNone }
     ensures refuses { IfSome (file_of (form words.now) (S.holds shelf.old)) (λ file. HasNone file
@@ -150,7 +175,7 @@ pub fn run<S: Shelf, I: Source, O: Sink, N: Sink>(
         → (Rose (S.faults shelf.old) (S.faults shelf.new) × ((input.new ≡ input.old) × (out.new ≡ out.old)))
         ⊎ (Rose (I.faults input.old) (I.faults input.new) × (S.faults shelf.new ≡ S.faults shelf.old)
         × IfSome (file_of (form words.now) (S.holds shelf.old)) IsAccepted) }
-    ensures complete { IsComplete result (file_of (form words.now) (S.holds shelf.old)) (I.left input.old)
+    ensures complete { IsComplete result (file_of (form words.now) (S.holds shelf.old)) (job_reads (form words.now)) (I.left input.old)
         (Rose (S.faults shelf.old) (S.faults shelf.new)) (Rose (I.faults input.old) (I.faults input.new))
         (Rose (O.faults out.old) (O.faults out.new)) }
 
