@@ -499,8 +499,17 @@ fn refusals_write_nothing_but_their_note(rt: HostRuntime) -> Result<(), Fail> {
     let usage: &[u8] = b"etalis: usage: etalis MODE RULES [--late N] [--seed N] [--lines N]\n";
     let refused = Status::RulesRefused;
     let words: &[&str] = &["run", "r"];
-    let rows: [(&[&str], &[u8], Status, &[u8]); 20] = [
+    let rows: [(&[&str], &[u8], Status, &[u8]); 24] = [
         (&["walk", "r"], AB, Status::Usage, usage),
+        (&["held", "r"], AB, Status::Usage, usage),
+        (&["check", "r", "--late", "5"], AB, Status::Usage, usage),
+        (&["run", "r", "--seed", "1"], AB, Status::Usage, usage),
+        (
+            &["run", "r", "--late", "1", "--late", "2"],
+            AB,
+            Status::Usage,
+            usage,
+        ),
         (&["run"], AB, Status::Usage, usage),
         (&["run", "-r"], AB, Status::Usage, usage),
         (&["run", "r", "s"], AB, Status::Usage, usage),
@@ -586,6 +595,36 @@ fn refusals_write_nothing_but_their_note(rt: HostRuntime) -> Result<(), Fail> {
         assert_eq!(rt; ran.status, row.2);
         assert_eq!(rt; ran.out.bytes(), b"".as_slice());
         assert_eq!(rt; ran.notes.bytes(), row.3);
+    }
+    Ok(())
+}
+
+// Options in any place and with `=`, and the canonical text of a rule file.
+#[test]
+fn words_say_what_is_done(rt: HostRuntime) -> Result<(), Fail> {
+    let rows: [(&[&str], &[u8], &[u8], &[u8]); 4] = [
+        (
+            &["--late=10", "run", "r"],
+            AB,
+            b"+ 5 b(7)\n+ 3 a(7)\n",
+            b"ok 1\n+ 3 5 ab(7)\nok 2\nend 2\n",
+        ),
+        (
+            &["run", "--late", "0010", "--", "r"],
+            AB,
+            b"+ 9 b(7)\n",
+            b"ok 1\nend 1\n",
+        ),
+        (
+            &["check", "r"],
+            b"ab( X )<-a(X) SEQ b(X).",
+            b"+ 1 a(7)\n",
+            b"ab(X) <- a(X) SEQ b(X).\n",
+        ),
+        (&["check", "r"], b"", b"", b""),
+    ];
+    for row in rows {
+        writes(&rt, row.0, row.1, row.2, row.3)?;
     }
     Ok(())
 }
