@@ -1,4 +1,4 @@
-//! The top call: lines from a source, replies to a sink.
+//! The top call: the words' job, with lines from a source and what is written to a sink.
 #![tactic(auto)]
 
 mod accepting;

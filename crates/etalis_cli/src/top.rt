@@ -118,8 +118,9 @@ fn work<S: Shelf, I: Source, O: Sink>(
     }
 }
 
-/// Reads the rule file and the lines, and writes the replies. A note says why the run ended, where
-/// it wasn't done; a failure to write the note is dropped.
+/// Does the job of the words with the rule file: mode `run` reads the lines and writes the replies, and
+/// mode `check` writes the canonical text of the rules. A note says why the run ended, where it wasn't
+/// done; a failure to write the note is dropped.
 pub fn run<S: Shelf, I: Source, O: Sink, N: Sink>(
     alloc: Global,
     words: &[String],
