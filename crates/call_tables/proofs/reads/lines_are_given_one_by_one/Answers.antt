@@ -4,7 +4,7 @@ use Rattle.line_reader.specs.declared.reading.Line.{Line}
 use Rattle.line_reader.specs.declared.reading.LineReader.{LineReader}
 use Rattle.line_reader.specs.Cutting.{NoFeed, IsLine}
 use Rattle.line_reader.specs.Holding.{Holds, MovesOn}
-use Rattle.single_calls.proofs.reads.lines_are_given_one_by_one.Goals as goal
+use Rattle.call_tables.proofs.reads.lines_are_given_one_by_one.Goals as goal
 
 abbrev IsFirst : List ℕ → Line → Type 0
 IsFirst bytes line = (raw : List ℕ) × (more : List ℕ) × (bytes ≡ raw ++ 10 ∷ more) × NoFeed raw × IsLine line raw
