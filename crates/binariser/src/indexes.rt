@@ -6,10 +6,9 @@ ghost use Rattle.rule_ast.specs.Vars.{atom_vars, is_in};
 ghost use Rattle.step_meaning.specs.Operands.{AreLower, IsLower};
 ghost use Rattle.step_meaning.specs.PlanOf.{each_once, in_both, in_either, index, partner_edge, plan_indexes, same_index, slots_in, slots_that, step_indexes, step_slots, with_index};
 
-use crate::variables::vars_of_atom;
 use event_model::{Edge, MOST_SLOTS, Op, PatAtom, Slot, Slots, Span};
 use interval_ops::{Side, partner_range};
-use rule_ast::{Index, Step, StepId};
+use rule_ast::{Index, Step, StepId, vars_of_atom};
 use std::alloc::{AllocError, Global};
 
 fn slots_at(slots: &[Slots], step: StepId) -> Slots

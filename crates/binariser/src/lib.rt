@@ -11,7 +11,6 @@ mod places;
 mod ranks;
 mod rules;
 mod sharing;
-mod variables;
 
 pub use binarising::binarise;
 pub use faults::{MOST_STEPS, PlanFault};

@@ -16,7 +16,7 @@ fn sets_of_slots(rt: HostRuntime) {
     assert!(rt; zero.within(&both) && !both.within(&zero));
 }
 
-// The variables of a negation are those of its limits.
+// The variables of a negation are those of its start and end patterns.
 #[test]
 fn variables_of_a_pattern(rt: HostRuntime) -> Result<(), Fail> {
     let rules = parse(rt.alloc(), "n <- NOT(c(Z)).[a(X),b(f(Y),_)].")?;

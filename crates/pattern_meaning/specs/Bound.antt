@@ -31,7 +31,7 @@ AreConditionsBound named (Within p q) = AreConditionsBound named p
 AreConditionsBound named (Not i b a) =
     AreConditionsBound named i × AreConditionsBound named b × AreConditionsBound named a
 
--- the chains that a NOT takes away bind no variable besides those of its limits
+-- the chains that a NOT takes away bind no variable besides those of its start and end patterns
 abbrev pub AreChainsBound : (NameArity → List Row) → PlainPattern → Type 0
 AreChainsBound named (Atom a) = Unit {0}
 AreChainsBound named (Both op l r) = AreChainsBound named l × AreChainsBound named r

@@ -62,10 +62,10 @@ rows_same N M (Where p c) h = ap (λ l. rows_of (filter (λ r. holds c r.binding
 rows_same N M (Exact p q) h = ap (λ l. rows_of (filter (is_long q) l)) (rows_same N M p h)
 rows_same N M (Within p q) h = ap (λ l. rows_of (filter (is_short q) l)) (rows_same N M p h)
 rows_same N M (Not i b a) h =
-    let limits = body_names b ++ body_names a in
-    let inner = rows_same N M i (λ m e. h m (in_left m (body_names i) limits e)) in
-    let before = rows_same N M b (λ m e. h m (in_right m (body_names i) limits (in_left m (body_names b) (body_names a) e))) in
-    let after = rows_same N M a (λ m e. h m (in_right m (body_names i) limits (in_right m (body_names b) (body_names a) e))) in
+    let edges = body_names b ++ body_names a in
+    let inner = rows_same N M i (λ m e. h m (in_left m (body_names i) edges e)) in
+    let before = rows_same N M b (λ m e. h m (in_right m (body_names i) edges (in_left m (body_names b) (body_names a) e))) in
+    let after = rows_same N M a (λ m e. h m (in_right m (body_names i) edges (in_right m (body_names b) (body_names a) e))) in
     λ j. remaining (before j) (inner j) (after j)
 
 heads_same : (N M : NameArity → List Row) (rs : List PlainRule) → Each (λ r. Agree N M r.body) rs

@@ -148,7 +148,7 @@ fn rows_without(alloc: Global, rows: Vec<Row>, others: &[Row]) -> Result<Vec<Row
     in_order(kept)
 }
 
-// The rows of a NOT, over those of its limits and of what may not lie between them.
+// The rows of a NOT, over those of its start and end patterns and of what may not lie between them.
 #[tactic(auto, using(ev_bind::specs::Rows::exact_rows, ordered_lists::specs::Members::rising_after_sort))]
 pub(crate) fn remaining_rows(
     alloc: Global,

@@ -27,7 +27,7 @@ slots_of = fold-Pat (List ℕ) slots_step
 abbrev pub atom_vars : PatAtom → List ℕ
 atom_vars a = flat_map slots_of a.args
 
--- the variables of a pattern's atoms; of a NOT those of its two limits
+-- the variables of a pattern's atoms; of a NOT those of its start and end patterns
 abbrev pub vars : PlainPattern → List ℕ
 vars (Atom a) = atom_vars a
 vars (Both op l r) = vars l ++ vars r

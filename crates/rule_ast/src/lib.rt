@@ -13,4 +13,4 @@ pub use limits::{MOST_STATEMENTS, MOST_TICKS};
 pub use patterns::Pattern;
 pub use plans::{Index, IndexId, Plan, Step, StepId};
 pub use statements::{Rule, RuleSet, Statement};
-pub use vars::vars_of;
+pub use vars::{vars_of, vars_of_atom};

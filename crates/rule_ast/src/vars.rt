@@ -1,12 +1,12 @@
-// The variables of patterns.
+// The variables of patterns and of atoms.
 ghost use Rattle.std.specs.Prelude.{◌≡◌, ℕ, ◌||◌};
 ghost use Rattle.std.specs.List.{flat_map};
 ghost use Rattle.event_model.specs.SlotSets.{slot_in};
 ghost use Rattle.rule_ast.specs.Plain.{plain_pattern};
-ghost use Rattle.rule_ast.specs.Vars.{slots_of, vars, is_in};
+ghost use Rattle.rule_ast.specs.Vars.{slots_of, atom_vars, vars, is_in};
 
 use crate::patterns::Pattern;
-use event_model::{Pat, Slots};
+use event_model::{Pat, PatAtom, Slots};
 
 #[cycle(slots)]
 #[tactic(auto, using(crate::specs::Vars::slot_lists))]
@@ -32,13 +32,21 @@ fn add_pats(slots: Slots, pats: &[Pat]) -> Slots
     all
 }
 
-/// The variables of a pattern's atoms; of a `Not` those of its two limits.
+/// The variables of an atom.
+#[tactic(auto, using(crate::specs::Vars::slot_lists))]
+pub fn vars_of_atom(atom: &PatAtom) -> Slots
+    ensures { (t : ℕ) → slot_in result t ≡ is_in t (atom_vars atom.now) }
+{
+    add_pats(Slots::empty(), atom.args.as_slice())
+}
+
+/// The variables of a pattern's atoms; of a `Not` those of its start and end patterns.
 #[tactic(auto, using(crate::specs::Vars::slot_lists))]
 pub fn vars_of(pattern: &Pattern) -> Slots
     ensures { (t : ℕ) → slot_in result t ≡ is_in t (vars (plain_pattern pattern.now)) }
 {
     match pattern {
-        Pattern::Atom(atom) => add_pats(Slots::empty(), atom.args.as_slice()),
+        Pattern::Atom(atom) => vars_of_atom(atom),
         Pattern::Both(_, left, right) => vars_of(left).union(&vars_of(right)),
         Pattern::Either(left, right) => vars_of(left).union(&vars_of(right)),
         Pattern::Where(of, _) => vars_of(of),

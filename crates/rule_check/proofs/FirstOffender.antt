@@ -16,9 +16,9 @@ pub other_side : (may m : Option ℕ) (v : ℕ) (p q : PlainPattern) → ((s : �
     → or_offenders (allowed m) p ≡ or_offenders (λ s. allowed may s && is_in s (vars q)) p
 other_side may m v p q h g = ap (λ f. or_offenders f p) (λ i s. (h s ∙ ap (λ b. allowed may s && b) (g s)) i)
 
-pub both_limits : (v w u : ℕ) (p b a : PlainPattern) → ((t : ℕ) → slot_in u t ≡ (slot_in v t || slot_in w t)) → ((t : ℕ) → slot_in v t ≡ is_in t (vars b)) → ((t : ℕ) → slot_in w t ≡ is_in t (vars a))
+pub both_edges : (v w u : ℕ) (p b a : PlainPattern) → ((t : ℕ) → slot_in u t ≡ (slot_in v t || slot_in w t)) → ((t : ℕ) → slot_in v t ≡ is_in t (vars b)) → ((t : ℕ) → slot_in w t ≡ is_in t (vars a))
     → not_offenders (allowed (Some u)) p ≡ not_offenders (λ s. is_in s (vars b) || is_in s (vars a)) p
-both_limits v w u p b a h f g = ap (λ may. not_offenders may p) (λ i s. (h s ∙ (λ j. f s j || g s j)) i)
+both_edges v w u p b a h f g = ap (λ may. not_offenders may p) (λ i s. (h s ∙ (λ j. f s j || g s j)) i)
 
 pub both_sides : (may m n : Option ℕ) (v w : ℕ) (l r : PlainPattern) (x y o : Option ℕ)
     → ((t : ℕ) → slot_in v t ≡ is_in t (vars r)) → ((s : ℕ) → allowed m s ≡ (allowed may s && slot_in v s)) → x ≡ first (or_offenders (allowed m) l)
@@ -35,7 +35,7 @@ pub negated : (may : Option ℕ) (v w u : ℕ) (p b a : PlainPattern) (x y o : O
     → o ≡ option_or x y → o ≡ first (not_offenders (allowed may) (Not p b a))
 negated may v w u p b a x y o v_is w_is u_is y_is x_is o_is =
     o_is
-    ∙ (λ i. option_or ((x_is ∙ ap first (both_limits v w u p b a u_is v_is w_is)) i) (y_is i))
+    ∙ (λ i. option_or ((x_is ∙ ap first (both_edges v w u p b a u_is v_is w_is)) i) (y_is i))
     ∙ sym (first-append (not_offenders (λ s. is_in s (vars b) || is_in s (vars a)) p) (not_offenders (allowed may) b ++ not_offenders (allowed may) a))
 
 pub ruleset where_steps = (first-append, own_set)

@@ -50,8 +50,8 @@ or_offenders may (Exact p q) = or_offenders may p
 or_offenders may (Within p q) = or_offenders may p
 or_offenders may (Not i b a) = or_offenders (λ s. true) i ++ (or_offenders may b ++ or_offenders may a)
 
--- variables of a negated pattern that its two limits don't have. `may` holds for the variables that the limits of the NOT round
--- the pattern have; it doesn't read what another NOT negates
+-- variables of a negated pattern that its start and end patterns don't have. `may` holds for the variables that the start and end
+-- patterns of the NOT round the pattern have; it doesn't read what another NOT negates
 abbrev pub not_offenders : (ℕ → Bool) → PlainPattern → List ℕ
 not_offenders may (Atom a) = outside may (atom_vars a)
 not_offenders may (Both op l r) = not_offenders may l ++ not_offenders may r

@@ -38,7 +38,7 @@ AreOrsAlike (Exact p q) = AreOrsAlike p
 AreOrsAlike (Within p q) = AreOrsAlike p
 AreOrsAlike (Not i b a) = AreOrsAlike i × AreOrsAlike b × AreOrsAlike a
 
--- each variable of a negated pattern is one of its two limits
+-- each variable of a negated pattern is one of its start and end patterns
 abbrev pub AreNotsBound : PlainPattern → Type 0
 AreNotsBound (Atom a) = Unit {0}
 AreNotsBound (Both op l r) = AreNotsBound l × AreNotsBound r

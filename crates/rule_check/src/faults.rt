@@ -17,7 +17,7 @@ pub enum CheckFault {
     /// A variable of one side of an OR isn't one of the other.
     #[error("rule {}: or {}", .0, .1.as_str())]
     OrVariables(u32, Name),
-    /// A variable of a negated pattern isn't one of its two limits.
+    /// A variable of a negated pattern isn't one of its start and end patterns.
     #[error("rule {}: not {}", .0, .1.as_str())]
     NotVariables(u32, Name),
     /// A shown name heads no rule.

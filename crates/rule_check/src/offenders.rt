@@ -38,8 +38,8 @@ pub(crate) fn where_offender(pattern: &Pattern) -> Option<Slot>
             before,
             after,
         } => {
-            let in_limits = where_offender(before).or(where_offender(after));
-            where_offender(inner).or(in_limits)
+            let in_edges = where_offender(before).or(where_offender(after));
+            where_offender(inner).or(in_edges)
         }
     }
 }
@@ -74,13 +74,13 @@ pub(crate) fn or_offender(pattern: &Pattern, may: &Option<Slots>) -> Option<Slot
             before,
             after,
         } => {
-            let in_limits = or_offender(before, may).or(or_offender(after, may));
-            or_offender(inner, &None).or(in_limits)
+            let in_edges = or_offender(before, may).or(or_offender(after, may));
+            or_offender(inner, &None).or(in_edges)
         }
     }
 }
 
-// The first variable of a negated pattern that its two limits don't have, or that may not stand there.
+// The first variable of a negated pattern that the start and end patterns don't have, or that may not stand there.
 #[tactic(auto, using(crate::proofs::FirstOutside::steps))]
 pub(crate) fn not_offender(pattern: &Pattern, may: &Option<Slots>) -> Option<Slot>
     ensures { result ≡ first (not_offenders (allowed may.now) (plain_pattern pattern.now)) }
@@ -97,9 +97,9 @@ pub(crate) fn not_offender(pattern: &Pattern, may: &Option<Slots>) -> Option<Slo
             before,
             after,
         } => {
-            let limits = Some(vars_of(before).union(&vars_of(after)));
-            let in_limits = not_offender(before, may).or(not_offender(after, may));
-            not_offender(inner, &limits).or(in_limits)
+            let bound = Some(vars_of(before).union(&vars_of(after)));
+            let in_edges = not_offender(before, may).or(not_offender(after, may));
+            not_offender(inner, &bound).or(in_edges)
         }
     }
 }
