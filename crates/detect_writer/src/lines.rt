@@ -6,7 +6,7 @@ ghost use Rattle.pattern_meaning.specs.Replies.{change_text, ok_text, refusal_te
 
 use event_model::{Detection, Refusal, atom_text};
 use itoa::{Buffer, Integer};
-use revision::Sign;
+use event_changes::Sign;
 use std::alloc::AllocError;
 
 fn push_number<I: Integer>(number: I, out: &mut Vec<u8>) -> Result<(), AllocError>

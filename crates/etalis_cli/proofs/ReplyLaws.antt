@@ -14,8 +14,8 @@ use Rattle.event_model.specs.declared.inputs.Refusal.TheVariants.{Syntax}
 use Rattle.event_model.specs.declared.events.Detection.{Detection}
 use Rattle.rule_ast.specs.Trees.{PlainStatement}
 use Rattle.pattern_meaning.specs.Replies.{Change, reply, reply_to_input, reply_text, refusal_text, change_text, change_texts, both_texts}
-use Rattle.revision.specs.Told.{PlainChanged, signed}
-use Rattle.revision.specs.declared.changes.Sign.TheVariants.{Plus, Minus}
+use Rattle.event_changes.specs.Told.{PlainChanged, signed}
+use Rattle.event_changes.specs.declared.changes.Sign.TheVariants.{Plus, Minus}
 use Rattle.detect_writer.specs.Signs.{sign_byte}
 use Rattle.event_reader.specs.Machine.{heard}
 use Rattle.etalis_core.specs.Kept.{HasRoom}

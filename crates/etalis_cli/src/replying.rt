@@ -15,7 +15,7 @@ use etalis_core::Engine;
 use event_model::{Input, Judgement, MOST_LINE_BYTES, Refusal};
 use event_reader::{LineFault, parse_line};
 use line_reader::Line;
-use revision::Progress;
+use event_changes::Progress;
 use std::alloc::{AllocError, Global};
 
 // How many visits a turn of the engine may make.

@@ -9,8 +9,8 @@ use Rattle.event_model.specs.EventOrder.{event_cmp, exact_events}
 use Rattle.event_model.specs.Presence.{History, all_inputs, in_batch, extended, added, taken, occurrences, copies, present, raised, bound, judge, IsAccepted}
 use Rattle.event_model.specs.declared.inputs.Input.{Input}
 use Rattle.event_model.specs.declared.inputs.Judgement.TheVariants as judgement
-use Rattle.revision.specs.declared.events.EventChange.TheVariants.{Came, Went}
-use Rattle.revision.specs.Events.{event_of, changed_events, event_changes}
+use Rattle.event_changes.specs.declared.events.EventChange.TheVariants.{Came, Went}
+use Rattle.event_changes.specs.Events.{event_of, changed_events, event_changes}
 use Rattle.etalis_core.specs.declared.present.Present.{Present}
 use Rattle.etalis_core.specs.declared.ledger.Ledger.{Ledger}
 use Rattle.etalis_core.specs.Kept.{number_of, is_kept, was_kept, net_changes, IsLedgerOf}

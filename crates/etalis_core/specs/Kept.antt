@@ -8,9 +8,9 @@ use Rattle.event_model.specs.EventOrder.{event_cmp}
 use Rattle.event_model.specs.Presence.{History, all_inputs, in_batch, copies, present, bound}
 use Rattle.event_model.specs.declared.inputs.Input.{Input}
 use Rattle.event_model.specs.declared.inputs.Input.TheVariants.{Add, Take, Advance, Nothing, Begin, Commit}
-use Rattle.revision.specs.declared.events.EventChange.{EventChange}
-use Rattle.revision.specs.declared.events.EventChange.TheVariants.{Came, Went}
-use Rattle.revision.specs.Events.{event_changes}
+use Rattle.event_changes.specs.declared.events.EventChange.{EventChange}
+use Rattle.event_changes.specs.declared.events.EventChange.TheVariants.{Came, Went}
+use Rattle.event_changes.specs.Events.{event_changes}
 use Rattle.etalis_core.specs.declared.present.TheConstants.{MOST_COPIES}
 use Rattle.etalis_core.specs.declared.present.Present.{Present}
 use Rattle.etalis_core.specs.declared.ledger.Ledger.{Ledger}

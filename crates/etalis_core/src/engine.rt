@@ -3,7 +3,7 @@ use crate::faults::{EngineFault, StartFault};
 use crate::ledger::Ledger;
 use crate::table::Table;
 use event_model::{Input, Judgement};
-use revision::{Changes, Progress};
+use event_changes::{Changes, Progress};
 use rule_check::Checked;
 use std::alloc::Global;
 
@@ -52,8 +52,8 @@ impl Engine {
     ghost use Rattle.event_model.specs.Presence.{History, no_history, settled, in_batch, extended, settles, bound, judge};
     ghost use Rattle.rule_ast.specs.Plain.{plain_rules};
     ghost use Rattle.pattern_meaning.specs.Replies.{change_by};
-    ghost use Rattle.revision.specs.Told.{changes_left, signed};
-    ghost use Rattle.revision.specs.declared.changes.Progress.TheVariants.{More, Done};
+    ghost use Rattle.event_changes.specs.Told.{changes_left, signed};
+    ghost use Rattle.event_changes.specs.declared.changes.Progress.TheVariants.{More, Done};
     ghost use Rattle.etalis_core.specs.StandsFor.{rules_of, late_of, is_working, is_spent, last_change, work_left, StandsFor, WorksFrom, CanBegin};
 
     /// Before the first input. The lateness is how far the time of an event may lie behind the greatest that came; without one

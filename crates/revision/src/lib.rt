@@ -1,8 +1,4 @@
-//! How a set of events changes, what that changes of the detections, and how far the work on it is.
+//! The work on a change of the events.
 #![tactic(auto)]
 
-mod changes;
-mod events;
-
-pub use changes::{Changed, Changes, Progress, Sign};
-pub use events::EventChange;
+pub use event_changes::{Changed, Changes, EventChange, Progress, Sign};

@@ -1,6 +1,6 @@
 use Rattle.std.proofs.Common.{◌++◌, sym, ap, ◌∙◌, append_assoc, append-nil}
 use Rattle.std.specs.List.{flat_map}
-use Rattle.revision.specs.Told.{changes_left, plain_changed}
+use Rattle.event_changes.specs.Told.{changes_left, plain_changed}
 use Rattle.etalis_core.specs.StandsFor.{last_change}
 use Rattle.etalis_cli.proofs.ReplyLaws.{line_of, lines_both}
 use Rattle.etalis_cli.proofs.replying.push_changes.Goals as goal

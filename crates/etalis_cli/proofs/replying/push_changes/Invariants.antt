@@ -1,7 +1,7 @@
 use Rattle.std.proofs.Common.{◌≡◌, ◌++◌}
 use Rattle.std.specs.List.{flat_map}
 use Rattle.pattern_meaning.specs.Replies.{both_texts}
-use Rattle.revision.specs.Told.{changes_left}
+use Rattle.event_changes.specs.Told.{changes_left}
 use Rattle.etalis_core.specs.StandsFor.{last_change}
 use Rattle.etalis_cli.proofs.ReplyLaws.{line_of}
 use Rattle.etalis_cli.proofs.replying.push_changes.Given as goal

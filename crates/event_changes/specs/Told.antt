@@ -1,10 +1,10 @@
 -- The changes that an iterator has still to give.
 use Rattle.std.specs.Prelude.{List, ◌++◌, map}
 use Rattle.event_model.specs.declared.events.Detection.{Detection}
-use Rattle.revision.specs.declared.changes.Sign.{Sign}
-use Rattle.revision.specs.declared.changes.Sign.TheVariants.{Plus, Minus}
-use Rattle.revision.specs.declared.changes.Changed.{Changed}
-use Rattle.revision.specs.declared.changes.Changes.{Changes}
+use Rattle.event_changes.specs.declared.changes.Sign.{Sign}
+use Rattle.event_changes.specs.declared.changes.Sign.TheVariants.{Plus, Minus}
+use Rattle.event_changes.specs.declared.changes.Changed.{Changed}
+use Rattle.event_changes.specs.declared.changes.Changes.{Changes}
 
 abbrev pub PlainChanged : Type 0
 PlainChanged = Sign × Detection

@@ -4,8 +4,8 @@ use Rattle.ordered_lists.specs.Canon.{canon, has}
 use Rattle.ordered_lists.specs.Members.{without}
 use Rattle.event_model.specs.EventOrder.{event_cmp}
 use Rattle.event_model.specs.declared.events.Event.{Event}
-use Rattle.revision.specs.declared.events.EventChange.{EventChange}
-use Rattle.revision.specs.declared.events.EventChange.TheVariants.{Came, Went}
+use Rattle.event_changes.specs.declared.events.EventChange.{EventChange}
+use Rattle.event_changes.specs.declared.events.EventChange.TheVariants.{Came, Went}
 
 abbrev pub event_of : EventChange → Event
 event_of (Came e) = e

@@ -1,6 +1,6 @@
 // The changes of a line, and the progress of the work on it.
 ghost use Rattle.std.specs.Prelude.{◌≡◌};
-ghost use Rattle.revision.specs.Told.{changes_left, signed};
+ghost use Rattle.event_changes.specs.Told.{changes_left, signed};
 
 use event_model::Detection;
 
@@ -43,7 +43,7 @@ impl<'a> Changes<'a> {
 
 impl<'a> Iterator for Changes<'a> {
     ghost use Rattle.std.specs.Iterator.{item_count, YieldsFirstBy};
-    ghost use Rattle.revision.specs.Told.{changes_left, plain_changed};
+    ghost use Rattle.event_changes.specs.Told.{changes_left, plain_changed};
 
     type Item = Changed<'a>;
 
