@@ -1,3 +1,4 @@
 pub mod Changes
 pub mod Partners
 pub mod Visits
+pub mod Kept

@@ -1,2 +1,6 @@
-//! How the rows of a step change, which rows are partners of a row, and what visits of partners give. Definitions, no code.
+//! How the rows of a step change, which rows are partners of a row, what visits of partners give, and which rows are kept at a bound.
 #![tactic(auto)]
+
+mod caps;
+
+pub use caps::{CapList, Reach, is_kept};
