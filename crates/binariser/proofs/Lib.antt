@@ -9,3 +9,4 @@ pub mod RankLaws
 pub mod SlotLaws
 pub mod IndexLaws
 pub mod WholeLaws
+pub mod OwnIndexes

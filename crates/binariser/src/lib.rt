@@ -6,6 +6,7 @@ mod bodies;
 mod faults;
 mod heads;
 mod indexes;
+mod laws;
 mod names;
 mod places;
 mod ranks;
@@ -14,3 +15,4 @@ mod sharing;
 
 pub use binarising::binarise;
 pub use faults::{MOST_STEPS, PlanFault};
+pub use laws::plans_have_each_index_once;
