@@ -2,8 +2,8 @@
 use crate::fixtures::{checked, event};
 use detect_writer::{change_text, drill_text, end_text, held_text, ok_text, refusal_text};
 use etalis_core::Engine;
-use event_model::{Input, Judgement, Refusal};
 use event_changes::Progress;
+use event_model::{Input, Judgement, Refusal};
 use std::test::Fail;
 
 // An engine, with lateness 5, over inputs one behind the other.

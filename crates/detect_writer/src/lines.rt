@@ -4,9 +4,9 @@ ghost use Rattle.std.specs.Io.{StartsWith};
 ghost use Rattle.detect_writer.specs.Signs.{sign_byte};
 ghost use Rattle.pattern_meaning.specs.Replies.{change_text, ok_text, refusal_text, end_text, held_text, drill_text};
 
+use event_changes::Sign;
 use event_model::{Detection, Refusal, atom_text};
 use itoa::{Buffer, Integer};
-use event_changes::Sign;
 use std::alloc::AllocError;
 
 fn push_number<I: Integer>(number: I, out: &mut Vec<u8>) -> Result<(), AllocError>

@@ -12,10 +12,10 @@ ghost use Rattle.etalis_cli.specs.Replying.{refusal_of};
 
 use detect_writer::{change_text, ok_text, refusal_text};
 use etalis_core::Engine;
+use event_changes::Progress;
 use event_model::{Input, Judgement, MOST_LINE_BYTES, Refusal};
 use event_reader::{LineFault, parse_line};
 use line_reader::Line;
-use event_changes::Progress;
 use std::alloc::{AllocError, Global};
 
 // How many visits a turn of the engine may make.

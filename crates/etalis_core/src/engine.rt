@@ -2,8 +2,8 @@
 use crate::faults::{EngineFault, StartFault};
 use crate::ledger::Ledger;
 use crate::table::Table;
-use event_model::{Input, Judgement};
 use event_changes::{Changes, Progress};
+use event_model::{Input, Judgement};
 use rule_check::Checked;
 use std::alloc::Global;
 
