@@ -1,0 +1,17 @@
+pub mod Lengths
+pub mod Caps
+pub mod WorkedCaps
+pub mod Users
+pub mod Belows
+pub mod Hulls
+pub mod Fits
+pub mod Holds
+pub mod Loss
+pub mod NoLoss
+pub mod Renewed
+pub mod Alone
+pub mod Sound
+pub mod Listed
+pub mod Histories
+pub mod Alike
+pub mod Equations
