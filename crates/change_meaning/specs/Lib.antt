@@ -1,0 +1,9 @@
+pub mod Moved
+pub mod Keys
+pub mod Caps
+pub mod JoinVisits
+pub mod MinusVisits
+pub mod Courses
+pub mod Shown
+pub mod Turns
+pub mod WorkedChanges
