@@ -1,15 +1,18 @@
 -- The replies to lines, and what they leave.
-use Rattle.std.proofs.Common.{◌≡◌, ℕ, zero, suc, Option, List, [], ◌∷◌, ◌++◌, length, map, take, refl, sym, ap, ◌∙◌, zero-add}
-use Rattle.std.specs.List.{flat_map}
+use Rattle.std.proofs.Common.{◌≡◌, ℕ, ◌+◌, zero, suc, Option, List, [], ◌∷◌, ◌++◌, length, map, take, refl, sym, ap, ◌∙◌, zero-add, arith}
+use Rattle.std.specs.List.{flat_map, sum_by}
+use Rattle.std.proofs.lemmas.List.Sums.{sum_by-cons}
+use Rattle.event_model.specs.Bytes.{plus}
 use Rattle.event_model.specs.Lines.{lines_of}
 use Rattle.event_model.specs.Presence.{in_batch}
 use Rattle.rule_ast.specs.Trees.{PlainStatement}
-use Rattle.pattern_meaning.specs.Replies.{State, replies_to, reply_to_said, reply_text, end_text, after_said, standing_after}
+use Rattle.pattern_meaning.specs.Replies.{State, Reply, Silent, Refusing, Changing, replies_to, reply_to_said, reply_text, change_texts, end_text, drill_text, after_said, standing_after}
 use Rattle.pattern_meaning.specs.Left.{left_is_standing}
 use Rattle.event_reader.specs.Machine.{heard}
-use Rattle.etalis_cli.specs.Headline.{IsWritten, LeavesWhatStands}
-use Rattle.etalis_cli.specs.Output.{Setting, Talk, start, after, closing_in, replies_said, after_said_all, same_voice}
-use Rattle.etalis_cli.specs.declared.voices.Voice.TheVariants.{Replies}
+use Rattle.etalis_cli.specs.Headline.{told_in, withdrawn_in, IsWritten, IsScratched, IsDrilled, LeavesWhatStands}
+use Rattle.etalis_cli.specs.Output.{Setting, Talk, start, after, after_line, refusal_in, voiced, tallied, counted, tally_after, closing_in, closing, replies_said, after_said_all, same_voice}
+use Rattle.etalis_cli.specs.declared.voices.Voice.TheVariants.{Replies, Refusals, Counts}
+use Rattle.etalis_cli.specs.declared.voices.Tally.{Tally}
 use Rattle.etalis_cli.proofs.FeedLaws.{count-after}
 
 pub written : (rules : List PlainStatement) (late : Option ℕ) (bytes : List ℕ) → IsWritten rules late bytes
@@ -18,9 +21,72 @@ written rules late bytes =
     let lines : List (List ℕ) = lines_of bytes in
     let counted : (after t lines).state.count ≡ length lines = count-after t lines ∙ zero-add (length lines) in
     let text : List ℕ = flat_map reply_text (replies_to t.state (map heard lines)) in
-    ap (λ r. r ++ closing_in (after t lines).voice (after t lines).state) (replies_said t lines)
-    ∙ ap (λ v. text ++ closing_in v (after t lines).state) (same_voice t lines)
+    ap (λ r. r ++ closing (after t lines)) (replies_said t lines)
+    ∙ ap (λ v. text ++ closing_in v (after t lines).state (after t lines).tally) (same_voice t lines)
     ∙ (λ i. text ++ end_text (counted i) (in_batch (after_said_all t lines i).history))
+
+rules_after : (t : Talk) (lines : List (List ℕ)) → (after t lines).state.rules ≡ t.state.rules
+rules_after t [] = refl
+rules_after t (line ∷ lines) = rules_after (after_line t line) lines
+
+pub scratched : (rules : List PlainStatement) (late : Option ℕ) (bytes : List ℕ) → IsScratched rules late bytes
+scratched rules late bytes =
+    let t : Talk = start (record { rules = rules; late = late; voice = Refusals }) in
+    let lines : List (List ℕ) = lines_of bytes in
+    let counted : (after t lines).state.count ≡ length lines = count-after t lines ∙ zero-add (length lines) in
+    let text : List ℕ = flat_map refusal_in (replies_to t.state (map heard lines)) in
+    ap (λ r. r ++ closing (after t lines)) (replies_said t lines)
+    ∙ ap (λ v. text ++ closing_in v (after t lines).state (after t lines).tally) (same_voice t lines)
+    ∙ (λ i. text ++ (change_texts plus (standing_after (rules_after t lines i) (after_said_all t lines i).history)
+    ++ end_text (counted i) (in_batch (after_said_all t lines i).history)))
+
+-- ---- what is counted
+
+tallied_told : (tally : Tally) (r : Reply) → (tallied tally r).told ≡ tally.told + told_in r
+tallied_told tally Silent = omega arith
+tallied_told tally (Refusing n why) = omega arith
+tallied_told tally (Changing n c) = refl
+
+tallied_withdrawn : (tally : Tally) (r : Reply) → (tallied tally r).withdrawn ≡ tally.withdrawn + withdrawn_in r
+tallied_withdrawn tally Silent = omega arith
+tallied_withdrawn tally (Refusing n why) = omega arith
+tallied_withdrawn tally (Changing n c) = refl
+
+-- a line more, where the answers are counted
+line_told : (t : Talk) (line : List ℕ) → t.voice ≡ Counts → (tally_after t line).told ≡ t.tally.told + told_in (reply_to_said t.state (heard line))
+unfolding tally_after
+line_told t line e = ap (λ v. (counted v t.tally (reply_to_said t.state (heard line))).told) e ∙ tallied_told t.tally (reply_to_said t.state (heard line))
+
+line_withdrawn : (t : Talk) (line : List ℕ) → t.voice ≡ Counts → (tally_after t line).withdrawn ≡ t.tally.withdrawn + withdrawn_in (reply_to_said t.state (heard line))
+unfolding tally_after
+line_withdrawn t line e = ap (λ v. (counted v t.tally (reply_to_said t.state (heard line))).withdrawn) e ∙ tallied_withdrawn t.tally (reply_to_said t.state (heard line))
+
+told_after : (t : Talk) (lines : List (List ℕ)) → t.voice ≡ Counts → (after t lines).tally.told ≡ t.tally.told + sum_by told_in (replies_to t.state (map heard lines))
+told_after t [] e = omega arith
+told_after t (line ∷ lines) e =
+    let r : Reply = reply_to_said t.state (heard line) in
+    omega (arith, told_after (after_line t line) lines e, line_told t line e, sum_by-cons told_in r (replies_to (after_said t.state (heard line)) (map heard lines)))
+
+withdrawn_after : (t : Talk) (lines : List (List ℕ)) → t.voice ≡ Counts → (after t lines).tally.withdrawn ≡ t.tally.withdrawn + sum_by withdrawn_in (replies_to t.state (map heard lines))
+withdrawn_after t [] e = omega arith
+withdrawn_after t (line ∷ lines) e =
+    let r : Reply = reply_to_said t.state (heard line) in
+    omega (arith, withdrawn_after (after_line t line) lines e, line_withdrawn t line e, sum_by-cons withdrawn_in r (replies_to (after_said t.state (heard line)) (map heard lines)))
+
+no_text : (replies : List Reply) → flat_map (voiced Counts) replies ≡ []
+no_text [] = refl
+no_text (r ∷ replies) = no_text replies
+
+pub drilled : (rules : List PlainStatement) (late : Option ℕ) (bytes : List ℕ) → IsDrilled rules late bytes
+drilled rules late bytes =
+    let t : Talk = start (record { rules = rules; late = late; voice = Counts }) in
+    let lines : List (List ℕ) = lines_of bytes in
+    let rs : List Reply = replies_to t.state (map heard lines) in
+    let told : (after t lines).tally.told ≡ sum_by told_in rs = told_after t lines refl ∙ zero-add (sum_by told_in rs) in
+    let withdrawn : (after t lines).tally.withdrawn ≡ sum_by withdrawn_in rs = withdrawn_after t lines refl ∙ zero-add (sum_by withdrawn_in rs) in
+    ap (λ r. r ++ closing (after t lines)) (replies_said t lines ∙ no_text rs)
+    ∙ ap (λ v. closing_in v (after t lines).state (after t lines).tally) (same_voice t lines)
+    ∙ (λ i. drill_text (told i) (withdrawn i) 0 0)
 
 pub first_replies : (s : State) (n : ℕ) (lines : List (List ℕ)) → replies_to s (map heard (take n lines)) ≡ take n (replies_to s (map heard lines))
 first_replies s zero lines = refl

@@ -1,7 +1,8 @@
 -- The reply to a line, by what it says and how that is judged.
-use Rattle.std.proofs.Common.{◌≡◌, ℕ, ◌<◌, Option, Some, None, List, [], ◌∷◌, ◌++◌, length, map, refl, sym, ap, ◌∙◌, arith}
-use Rattle.std.specs.Prelude.{OnOk, Result, Ok, Err}
+use Rattle.std.proofs.Common.{◌≡◌, ℕ, ◌<◌, Result, Ok, Err, IfOk, Option, Some, None, List, [], ◌∷◌, ◌++◌, length, map, refl, sym, ap, ◌∙◌, arith, ◌+◌, ◌≤◌, drop, get_or, add-one, append_assoc, append-nil}
 use Rattle.std.specs.List.{flat_map}
+use Rattle.std.proofs.Math.Seq.{drop-cons}
+use Rattle.std.proofs.lemmas.List.{drop_all}
 use Rattle.std.proofs.lemmas.List.Concat.{flat_map-append}
 use Rattle.event_model.specs.Bytes.{plus, minus}
 use Rattle.event_model.specs.Presence.{History, all_inputs, extended, copies, judge, Says, Fails, Verdict, Accepted, Refused, verdict, verdict_of, after_verdict}
@@ -13,7 +14,7 @@ use Rattle.event_model.specs.declared.inputs.Refusal.{Refusal}
 use Rattle.event_model.specs.declared.inputs.Refusal.TheVariants.{Syntax}
 use Rattle.event_model.specs.declared.events.Detection.{Detection}
 use Rattle.rule_ast.specs.Trees.{PlainStatement}
-use Rattle.pattern_meaning.specs.Replies.{Change, reply, reply_to_input, reply_text, refusal_text, change_text, change_texts, both_texts}
+use Rattle.pattern_meaning.specs.Replies.{Change, Refusing, reply, reply_to_input, change_text, change_texts, both_texts}
 use Rattle.event_changes.specs.Told.{PlainChanged, signed}
 use Rattle.event_changes.specs.declared.changes.Sign.TheVariants.{Plus, Minus}
 use Rattle.detect_writer.specs.Signs.{sign_byte}
@@ -23,7 +24,8 @@ use Rattle.etalis_core.specs.StandsFor.{StandsFor, CanBegin, can_begin, late_of}
 use Rattle.etalis_core.specs.declared.present.TheConstants.{MOST_COPIES}
 use Rattle.etalis_core.specs.declared.engine.Engine.{Engine}
 use Rattle.etalis_core.proofs.HistoryLaws.{copies_few}
-use Rattle.etalis_cli.specs.Replying.{refusal_of}
+use Rattle.etalis_cli.specs.Replying.{refusal_of, reply_by}
+use Rattle.etalis_cli.specs.declared.replying.Answer.{Answer}
 
 -- ---- how a judgement refuses
 
@@ -51,17 +53,23 @@ module _ (late : Option ℕ) (h : History) (line : List ℕ) where
   pub says_accepted : (input : Input) → heard line ≡ Says input → judge late h input ≡ judgement.Fine → verdict late h (heard line) ≡ Accepted input
   says_accepted input e r = ap (verdict late h) e ∙ ap (λ j. verdict_of j input) r
 
-pub refused_text : (rules : List PlainStatement) (h : History) (n : ℕ) (v : Verdict) (why : Refusal) → v ≡ Refused why → refusal_text n why ≡ reply_text (reply rules h n v)
-refused_text rules h n v why e = ap (λ v. reply_text (reply rules h n v)) (sym e)
+pub refused_reply : (rules : List PlainStatement) (h : History) (n : ℕ) (v : Verdict) (why : Refusal) → v ≡ Refused why → Refusing n why ≡ reply rules h n v
+refused_reply rules h n v why e = ap (reply rules h n) (sym e)
 
 pub refused_history : (h : History) (v : Verdict) (why : Refusal) → v ≡ Refused why → h ≡ after_verdict h v
 refused_history h v why e = ap (after_verdict h) (sym e)
 
-pub accepted_text : (rules : List PlainStatement) (h : History) (n : ℕ) (v : Verdict) (input : Input) → v ≡ Accepted input → reply_text (reply_to_input rules h n input) ≡ reply_text (reply rules h n v)
-accepted_text rules h n v input e = ap (λ v. reply_text (reply rules h n v)) (sym e)
+pub accepted_reply : (rules : List PlainStatement) (h : History) (n : ℕ) (v : Verdict) (input : Input) → v ≡ Accepted input → reply_to_input rules h n input ≡ reply rules h n v
+accepted_reply rules h n v input e = ap (reply rules h n) (sym e)
 
 pub accepted_history : (h : History) (v : Verdict) (input : Input) → v ≡ Accepted input → extended h input ≡ after_verdict h v
 accepted_history h v input e = ap (after_verdict h) (sym e)
+
+-- what an input that is accepted comes to is what its line comes to
+pub accepted_answer : (rules : List PlainStatement) (h : History) (v : Verdict) (input : Input) → v ≡ Accepted input → (c : Change) {E : Type 0} (r : Result Answer E)
+    → IfOk r (λ answer. (n : ℕ) → reply_by n answer c ≡ reply_to_input rules h n input) → IfOk r (λ answer. (n : ℕ) → reply_by n answer c ≡ reply rules h n v)
+accepted_answer rules h v input e c (Ok answer) p = λ n. p n ∙ accepted_reply rules h n v input e
+accepted_answer rules h v input e c (Err fault) p = tt
 
 -- ---- what may begin
 
@@ -92,8 +100,16 @@ lines_plus (d ∷ ds) = ap (λ t. change_text plus d ++ t) (lines_plus ds)
 pub lines_both : (c : Change) → flat_map line_of (signed c.gone c.come) ≡ both_texts c
 lines_both c = flat_map-append line_of (map (λ d. (Minus, d)) c.gone) (map (λ d. (Plus, d)) c.come) ∙ (λ i. lines_minus c.gone i ++ lines_plus c.come i)
 
--- ---- an answer that is Ok
+-- ---- the lines of what stands
 
-pub any_ok : {T E P : Type 0} (r : Result T E) → P → OnOk r P
-any_ok (Ok x) p = p
-any_ok (Err e) p = tt
+-- one line more of those that are left
+pub standing_more : (out new all : List ℕ) (ds : List Detection) (i : ℕ) (d : Detection) → i < length ds → d ≡ get_or ds i d → new ≡ out ++ change_text plus d
+    → out ++ change_texts plus (drop i ds) ≡ all → new ++ change_texts plus (drop (i + 1) ds) ≡ all
+standing_more out new all ds i d lt is e so_far =
+    let rest : List Detection = drop (i + 1) ds in
+    let split : drop i ds ≡ d ∷ rest = drop-cons ds i d lt ∙ (λ j. sym is j ∷ drop (sym (add-one i) j) ds) in
+    ap (λ l. l ++ change_texts plus rest) e ∙ append_assoc out (change_text plus d) (change_texts plus rest) ∙ ap (λ l. out ++ change_texts plus l) (sym split) ∙ so_far
+
+-- none is left
+pub standing_all : (out all : List ℕ) (ds : List Detection) (i : ℕ) → length ds ≤ i → out ++ change_texts plus (drop i ds) ≡ all → out ≡ all
+standing_all out all ds i le so_far = sym (append-nil out) ∙ ap (λ l. out ++ change_texts plus l) (sym (drop_all i ds le)) ∙ so_far

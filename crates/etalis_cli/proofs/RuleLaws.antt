@@ -16,21 +16,31 @@ use Rattle.rule_check.specs.declared.faults.CheckFault.{CheckFault}
 use Rattle.rule_check.specs.declared.faults.CheckFault.TheVariants as check
 use Rattle.etalis_cli.specs.declared.accepting.TheConstants.{MOST_FILE_BYTES}
 use Rattle.etalis_cli.specs.declared.refusals.FileRefusal.TheVariants as refusal
-use Rattle.etalis_cli.specs.Rules.{IsText, Accepted, HasNone, IsRefused}
+use Rattle.step_meaning.specs.PlanOf.{plan_of}
+use Rattle.binariser.specs.declared.faults.TheConstants.{MOST_STEPS}
+use Rattle.etalis_cli.specs.Rules.{IsText, HoldsSound, Accepted, HasNone, IsRefused}
 
 pub same_Some : {X : Type 0} (x y : X) → Some x ≡ Some y → x ≡ y
 same_Some x y e = cc
 
 -- no file is accepted as two lists of rules
 pub one_acceptance : (file : List ℕ) (rs others : List PlainStatement) → Accepted file rs → Accepted file others → rs ≡ others
-one_acceptance file rs others a b = one_meaning file rs others a.holds b.holds
+one_acceptance file rs others a b = one_meaning file rs others a.sound.holds b.sound.holds
+
+-- a file that holds other rules than those with too large a plan is none
+pub too_great : (file : List ℕ) (rules : List PlainStatement) → HoldsSound file rules → MOST_STEPS < length (plan_of rules).steps
+    → IsRefused file refusal.TooManySteps × HasNone file
+too_great file rules sound over = (
+  record { rules = rules; sound = sound; over = over },
+  λ others a. absurd (omega (arith, over, subst (λ r. length (plan_of r).steps ≤ MOST_STEPS) (one_meaning file others rules a.sound.holds sound.holds) a.fits)),
+)
 
 module _ (file text : List ℕ) (same : text ≡ file) (short : length file ≤ MOST_FILE_BYTES) (utf8 : IsUtf8 file) where
   is_text : IsText file
   is_text = record { short = short; utf8 = utf8 }
 
   none_held : ((rules : List PlainStatement) → Holds text rules → ⊥) → HasNone file
-  none_held never = λ rs a. never rs (subst (λ f. Holds f rs) (sym same) a.holds)
+  none_held never = λ rs a. never rs (subst (λ f. Holds f rs) (sym same) a.sound.holds)
 
   pub syntax_refused : (at place : ℕ) → at ≡ place → (f : ParseFault) → f ≡ parse.Syntax at → Answers text (Err f) → ((rules : List PlainStatement) → Holds text rules → Gives rules (Err f))
       → IsRefused file (refusal.Syntax place) × HasNone file
@@ -56,11 +66,11 @@ module _ (file text : List ℕ) (same : text ≡ file) (short : length file ≤ 
         → IsRefused file (refusal.Unsound f) × HasNone file
     unsound_refused f first found exact = (
       record { text = is_text; rules = plain_rules r; holds = held; first = first; found = found },
-      λ rs a. found (exact (subst IsSound (sym (same_rules rs a.holds)) a.sound)),
+      λ rs a. found (exact (subst IsSound (sym (same_rules rs a.sound.holds)) a.sound.sound)),
     )
 
-    pub accepted : IsSound (plain_rules r) → Accepted file (plain_rules r)
-    accepted sound = record { text = is_text; holds = held; sound = sound }
+    pub sound_held : IsSound (plain_rules r) → HoldsSound file (plain_rules r)
+    sound_held sound = record { text = is_text; holds = held; sound = sound }
 
     -- the shown names can be numbered
     pub few_names : length (shown_names (plain_rules r)) ≤ length text → length (shown_names (plain_rules r)) < 2 ^ 32

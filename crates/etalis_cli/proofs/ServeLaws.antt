@@ -1,20 +1,23 @@
 -- What a run over the lines of a source has done, and how it ends.
-use Rattle.std.proofs.Common.{◌≡◌, ℕ, ◌+◌, ◌-◌, ◌<◌, ◌≤◌, min, List, [], ◌∷◌, ◌++◌, Option, Some, None, Result, Ok, Err, length, take, drop, refl, sym, ap, ◌∙◌, subst, inr, arith, append-nil, append_assoc, length-append}
+use Rattle.std.proofs.Common.{◌≡◌, ℕ, ◌+◌, ◌-◌, ◌<◌, ◌≤◌, min, List, [], ◌∷◌, ◌++◌, Option, Some, None, Result, Ok, Err, length, take, drop, refl, sym, ap, ◌∙◌, subst, inr, arith, rules, append-nil, append_assoc, length-append}
 use Rattle.std.specs.Prelude.{OnOk, OnErr, IsErrOf}
 use Rattle.std.proofs.lemmas.List.{take-append-le, take_all, take_min, take-append-drop}
 use Rattle.std.proofs.Math.Seq.{take-append-add}
 use Rattle.std.specs.Io.KnownBytes.{append_known}
 use Rattle.flow_ports.specs.Flow.{Takes, Gives, GivesPart, IsAtEnd}
-use Rattle.flow_ports.proofs.FlowLemmas.{append_known-append, prepend_known-nil, gives_more, takes_more}
+use Rattle.flow_ports.proofs.FlowLemmas.{append_known-nil, append_known-append, prepend_known-nil, gives_more, takes_more}
 use Rattle.event_model.specs.Lines.{without_cr, ended, rest, ended_from, last_line, lines_of, ended_from-append}
+use Rattle.line_reader.specs.Holding.{Holds}
 use Rattle.line_reader.specs.declared.reading.LineReader.{LineReader}
 use Rattle.etalis_cli.specs.Output.{Setting, Talk, start, after, after_line, reply_to, replies, closing, out_text}
+use Rattle.etalis_cli.specs.StandsFor.{StandsFor, setting_of}
 use Rattle.etalis_cli.specs.Feeds.{Kept, Feeds, Between, FedTo, FeedsPart}
-use Rattle.etalis_cli.specs.Outcome.{begin, Progress, Reached, tail, PartOf, Served}
+use Rattle.etalis_cli.specs.Outcome.{begin, Progress, Reached, tail, PartOf, Served, Written}
 use Rattle.etalis_cli.specs.declared.session.Session.{Session}
 use Rattle.etalis_cli.specs.declared.serving.TheConstants.{INPUT_LIMIT, MOST_PIECE_BYTES}
 use Rattle.etalis_cli.specs.declared.serving.ServeFault.{ServeFault}
 use Rattle.etalis_cli.specs.declared.serving.ServeFault.TheVariants.{Read, Write, Memory, TooLong}
+use Rattle.etalis_cli.proofs.NoteLaws.{part_longer, part_behind}
 use Rattle.etalis_cli.proofs.FeedLaws.{after-append, replies-append, feeds_none, feeds_more, feeds_count, replies_both, second}
 
 -- ---- behind the last line feed
@@ -26,6 +29,10 @@ tail_some t (x ∷ bytes) b u v some e g f =
     let r : List ℕ = reply_to t (without_cr (x ∷ bytes)) in
     let end : List ℕ = closing (after_line t (without_cr (x ∷ bytes))) in
     f ∙ ap (λ l. l ++ end) (g ∙ ap (λ l. l ++ r) e) ∙ ap (λ l. l ++ end) (sym (append-nil r))
+
+-- before the first byte
+pub between_none : (session : Session) (reader : LineReader) → StandsFor session (start (setting_of session)) → Holds reader [] → Between session reader (start (setting_of session)) []
+between_none session reader stands holds = record { stands = stands; holds = holds; plain = search rules }
 
 module _ (w : Setting) where
   pub progress_more : (left l1 l2 got : Option (List ℕ)) (now next : Kept) (n k : ℕ) (done piece : List ℕ)
@@ -208,10 +215,26 @@ module _ (w : Setting) where
     };
   }
 
-  -- ---- before any line
+  -- ---- over bytes that are there
 
-  pub served_none : (r : Result (Unit {0}) ServeFault) (left got : Option (List ℕ)) (rose : Type 0) → r ≡ Err Memory → (done : List ℕ) × Served w r left left got got rose done
-  served_none r left got rose e =
-      let none : Takes left left [] = sym (prepend_known-nil left) in
-      let ends : PartOf w left got got [] = part_whole left left got (begin w got) 0 [] (record { takes = none; feeds = feeds_none (begin w got); count = refl }) in
-      ([], subst (λ x. Served w x left left got got rose []) (sym e) (record { takes = none; ends = ends }))
+  -- some first part of the replies to all lines but a last one without a line feed went out
+  pub written_part : (got got' : Option (List ℕ)) (bytes : List ℕ) → FeedsPart (begin w got) got' bytes → GivesPart got got' (out_text w bytes)
+  written_part got got' bytes q =
+      let (t, begins) = out_begins bytes [] in
+      subst (GivesPart got got') (sym begins ∙ ap (out_text w) (append-nil bytes)) (part_longer got got' (replies (start w) (ended bytes)) t q.sent)
+
+  -- what the last call answered
+  pub written_end : (r : Result (Unit {0}) ServeFault) (got got' : Option (List ℕ)) (now : Kept) (bytes : List ℕ) → Feeds (begin w got) now bytes
+      → OnOk r (Gives now.got got' (tail now.talk now.part)) → OnErr r (GivesPart now.got got' (tail now.talk now.part))
+      → (IsErrOf r Read → ⊥) → (IsErrOf r TooLong → ⊥) → Written r got got' (out_text w bytes)
+  written_end (Ok x) got got' now bytes p ok err no_read no_long = gives_more got now.got got' _ _ _ p.got ok (sym (out_text_is got now bytes p))
+  written_end (Err Read) got got' now bytes p ok err no_read no_long = absurd (no_read refl)
+  written_end (Err TooLong) got got' now bytes p ok err no_read no_long = absurd (no_long refl)
+  written_end (Err Write) got got' now bytes p ok err no_read no_long =
+      subst (GivesPart got got') (sym (out_text_is got now bytes p)) (part_behind got now.got got' _ _ p.got err)
+  written_end (Err Memory) got got' now bytes p ok err no_read no_long =
+      subst (GivesPart got got') (sym (out_text_is got now bytes p)) (part_behind got now.got got' _ _ p.got err)
+
+-- nothing went out
+pub unwritten : (r : Result (Unit {0}) ServeFault) (got : Option (List ℕ)) (text : List ℕ) → r ≡ Err Memory → Written r got got text
+unwritten r got text e = subst (λ x. Written x got got text) (sym e) (0, sym (append_known-nil got))

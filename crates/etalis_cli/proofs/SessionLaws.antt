@@ -1,34 +1,44 @@
 -- A session from line to line.
-use Rattle.std.proofs.Common.{◌≡◌, ℕ, ◌+◌, ◌<◌, ◌≤◌, Option, Some, None, List, [], ◌∷◌, ◌++◌, length, refl, sym, ap, ◌∙◌, subst, inl, arith, length-append, append-nil}
+use Rattle.std.proofs.Common.{◌≡◌, ℕ, ◌+◌, ◌^◌, ◌<◌, ◌≤◌, Option, Some, None, List, [], ◌∷◌, ◌++◌, length, refl, sym, ap, ◌∙◌, subst, inl, arith, length-append, append-nil}
 use Rattle.std.proofs.lemmas.List.Concat.{flat_map-append}
 use Rattle.std.specs.List.{flat_map}
 use Rattle.event_model.specs.Presence.{History, Verdict, Accepted, Refused, verdict, after_verdict, extended, with_input, all_inputs, batch_inputs, Fails}
 use Rattle.event_model.specs.declared.inputs.Input.{Input}
 use Rattle.event_model.specs.declared.inputs.Input.TheVariants.{Add, Take, Advance, Nothing, Begin, Commit}
 use Rattle.event_model.specs.declared.inputs.TheConstants.{MOST_LINE_BYTES}
-use Rattle.pattern_meaning.specs.Replies.{Reply, reply, reply_text}
+use Rattle.pattern_meaning.specs.Replies.{Reply, reply}
 use Rattle.event_reader.specs.Machine.{heard}
 use Rattle.event_reader.proofs.LineLaws.{heard_short}
 use Rattle.etalis_core.specs.StandsFor as core
 use Rattle.etalis_core.specs.StandsFor.{rules_of, late_of}
-use Rattle.etalis_cli.specs.Output.{Talk, voiced, after_line, reply_to}
-use Rattle.etalis_cli.specs.StandsFor.{StandsFor}
-use Rattle.etalis_cli.specs.declared.voices.Voice.{Voice}
-use Rattle.etalis_cli.specs.declared.voices.Voice.TheVariants.{Replies}
+use Rattle.etalis_cli.specs.Output.{Talk, voiced, counted, after_line, reply_to, tally_after}
+use Rattle.etalis_cli.specs.StandsFor.{IsWithin, StandsFor}
+use Rattle.etalis_cli.specs.declared.voices.Tally.{Tally}
 use Rattle.etalis_cli.specs.declared.session.Session.{Session}
 
--- ---- each voice writes replies
+-- ---- a reply in the session's words
 
-voiced_is : (v : Voice) (r : Reply) → reply_text r ≡ voiced v r
-voiced_is Replies r = refl
+abbrev reply_in : Session → Talk → List ℕ → Reply
+reply_in a t line = reply (rules_of a.engine) t.state.history (a.count + 1) (verdict (late_of a.engine) t.state.history (heard line))
 
--- the reply to a line, in the session's words
-pub told : (a : Session) (t : Talk) (line : List ℕ) → StandsFor a t
-    → reply_text (reply (rules_of a.engine) t.state.history (a.count + 1) (verdict (late_of a.engine) t.state.history (heard line))) ≡ reply_to t line
+-- what is written of it
+pub told : (a : Session) (t : Talk) (line : List ℕ) → StandsFor a t → voiced a.voice (reply_in a t line) ≡ reply_to t line
 unfolding reply_to
 told a t line p =
-    (λ i. reply_text (reply (sym p.same_rules i) t.state.history (sym p.same_count i + 1) (verdict (sym p.same_late i) t.state.history (heard line))))
-    ∙ voiced_is t.voice _
+    λ i. voiced (sym p.same_voice i) (reply (sym p.same_rules i) t.state.history (sym p.same_count i + 1) (verdict (sym p.same_late i) t.state.history (heard line)))
+
+-- what is counted of it
+pub tallied : (a : Session) (t : Talk) (line : List ℕ) → StandsFor a t → counted a.voice a.tally (reply_in a t line) ≡ tally_after t line
+unfolding tally_after
+tallied a t line p =
+    λ i. counted (sym p.same_voice i) (sym p.same_tally i) (reply (sym p.same_rules i) t.state.history (sym p.same_count i + 1) (verdict (sym p.same_late i) t.state.history (heard line)))
+
+-- one line more
+within_after : (old new : Tally) (n : ℕ) → IsWithin old n → new.told ≤ old.told + 2 ^ 64 → new.withdrawn ≤ old.withdrawn + 2 ^ 64 → IsWithin new (n + 1)
+within_after old new n w told withdrawn = record {
+  told = omega (arith, w.told);
+  withdrawn = omega (arith, w.withdrawn);
+}
 
 -- ---- no line is more than one input
 
@@ -60,15 +70,18 @@ few_after h (Accepted input) n few = omega (arith, few, few_extended h input)
 few_after h (Refused why) n few = omega (arith, few)
 
 pub stands_after : (a b : Session) (t : Talk) (line : List ℕ) → StandsFor a t → rules_of b.engine ≡ rules_of a.engine → late_of b.engine ≡ late_of a.engine
-    → b.voice ≡ a.voice → b.count ≡ a.count + 1
+    → b.voice ≡ a.voice → b.count ≡ a.count + 1 → b.tally ≡ tally_after t line → b.tally.told ≤ a.tally.told + 2 ^ 64 → b.tally.withdrawn ≤ a.tally.withdrawn + 2 ^ 64
     → core.StandsFor b.engine (after_verdict t.state.history (verdict (late_of a.engine) t.state.history (heard line))) → StandsFor b (after_line t line)
-stands_after a b t line p rules late voice count h = record {
+stands_after a b t line p rules late voice count tally more_told more_withdrawn h = record {
   same_rules = p.same_rules ∙ sym rules;
   same_late = p.same_late ∙ sym late;
   same_voice = p.same_voice ∙ sym voice;
   same_count = ap (λ n. n + 1) p.same_count ∙ sym count;
+  same_tally = sym tally;
   inputs = subst (λ l. core.StandsFor b.engine (after_verdict t.state.history (verdict l t.state.history (heard line)))) (sym p.same_late) h;
   few = few_after t.state.history (verdict t.state.late t.state.history (heard line)) t.state.count p.few;
+  within = subst (λ x. IsWithin x (t.state.count + 1)) tally
+      (within_after a.tally b.tally t.state.count (subst (λ x. IsWithin x t.state.count) p.same_tally p.within) more_told more_withdrawn);
 }
 
 -- a line that is too long says nothing from the place of the limit on

@@ -7,14 +7,19 @@ use Rattle.flow_ports.proofs.FlowLemmas.{append_known-nil, prepend_known-nil}
 use Rattle.event_model.specs.Lines.{ended}
 use Rattle.rule_ast.specs.Trees.{PlainStatement}
 use Rattle.etalis_cli.specs.Output.{Setting, start, replies, out_text}
-use Rattle.etalis_cli.specs.Modes.{reads, job_reads, setting_for, text_in, mode_text, OnInput}
-use Rattle.etalis_cli.specs.Outcome.{Served}
+use Rattle.rule_writer.specs.Canonical.{canonical}
+use Rattle.drill_lines.specs.DrillText.{drill_text}
+use Rattle.drill_lines.specs.OpenNames.{open_names}
+use Rattle.etalis_cli.specs.declared.voices.Voice.{Voice}
+use Rattle.etalis_cli.specs.declared.voices.Voice.TheVariants as voices
+use Rattle.etalis_cli.specs.Modes.{reads, job_reads, voice_of, setting_for, text_in, mode_text, OnInput}
+use Rattle.etalis_cli.specs.Outcome.{Served, Written}
 use Rattle.job_words.specs.Words.{PlainJob}
 use Rattle.job_words.specs.declared.jobs.Mode.{Mode}
 use Rattle.job_words.specs.declared.jobs.Mode.TheVariants.{Run, Check, Scratch, Held, Drill}
 use Rattle.etalis_cli.specs.Rules.{Accepted, IsAccepted, IsRefused, HasNone}
 use Rattle.etalis_cli.specs.declared.refusals.FileRefusal.{FileRefusal}
-use Rattle.etalis_cli.specs.Run.{PartOver, PartFor, OnRules, OnTaken, file_of, cause_of, Written, WhereServed, WrittenBy, RunEnds.OverRules, status_of, WasServed, Counts, Untouched, WhyNoRules, ServedBy, RunEnds, RunEnds.OutOfForm, RunEnds.Starved, RunEnds.NoRules, RunEnds.OverLines, IsComplete}
+use Rattle.etalis_cli.specs.Run.{PartOver, PartFor, OnRules, OnTaken, file_of, cause_of, WhereServed, WrittenBy, RunEnds.OverRules, status_of, WasServed, Counts, Untouched, WhyNoRules, ServedBy, RunEnds, RunEnds.OutOfForm, RunEnds.Starved, RunEnds.NoRules, RunEnds.OverLines, IsComplete}
 use Rattle.etalis_cli.specs.declared.serving.TheConstants.{INPUT_LIMIT, MOST_PIECE_BYTES}
 use Rattle.etalis_cli.specs.declared.serving.ServeFault.{ServeFault}
 use Rattle.etalis_cli.specs.declared.serving.ServeFault.TheVariants as fault
@@ -28,19 +33,33 @@ use Rattle.etalis_cli.proofs.ServeLaws.{out_begins, replies_shorter}
 -- ---- what is taken and written
 
 -- where the source is read, its lines are served
-served_text : (mode : Mode) (w : Setting) (bytes : List ℕ) → reads mode ≡ true → text_in mode w bytes ≡ out_text w bytes
-served_text Run w bytes e = refl
-served_text Check w bytes e = absurd (let f = e in cc)
-served_text Scratch w bytes e = refl
-served_text Held w bytes e = refl
-served_text Drill w bytes e = refl
+served_text : (mode : Mode) (job : PlainJob) (w : Setting) (bytes : List ℕ) → reads mode ≡ true → text_in mode job w bytes ≡ out_text w bytes
+served_text Run job w bytes e = refl
+served_text Check job w bytes e = absurd (let f = e in cc)
+served_text Scratch job w bytes e = refl
+served_text Held job w bytes e = refl
+served_text Drill job w bytes e = absurd (let f = e in cc)
 
--- every mode but `Check` reads the source
-pub read_modes : (mode : Mode) → (mode ≡ Run) ⊎ ((mode ≡ Scratch) ⊎ ((mode ≡ Held) ⊎ (mode ≡ Drill))) → reads mode ≡ true
+-- every mode but `Check` and `Drill` reads the source
+pub read_modes : (mode : Mode) → (mode ≡ Run) ⊎ ((mode ≡ Scratch) ⊎ (mode ≡ Held)) → reads mode ≡ true
 read_modes mode (inl is) = ap reads is
 read_modes mode (inr (inl is)) = ap reads is
-read_modes mode (inr (inr (inl is))) = ap reads is
-read_modes mode (inr (inr (inr is))) = ap reads is
+read_modes mode (inr (inr is)) = ap reads is
+
+-- what a session of a mode runs with
+pub setting_is : (job : PlainJob) (rules : List PlainStatement) (late : Option ℕ) (voice : Voice) → late ≡ job.late → voice ≡ voice_of job.mode
+    → record { rules = rules; late = late; voice = voice } ≡ setting_for job rules
+setting_is job rules late voice same answers = λ i. record { rules = rules; late = same i; voice = answers i }
+
+-- what is written where the source isn't read
+pub checked_text : (job : PlainJob) (rules : List PlainStatement) → job.mode ≡ Check → canonical rules ≡ mode_text job (setting_for job rules) []
+checked_text job rules is = ap (λ m. text_in m job (setting_for job rules) []) (sym is)
+
+pub drilled_text : (job : PlainJob) (rules : List PlainStatement) (late : Option ℕ) → late ≡ job.late → job.mode ≡ Drill
+    → out_text (record { rules = rules; late = late; voice = voices.Counts }) (drill_text (open_names rules) job.seed job.lines) ≡ mode_text job (setting_for job rules) []
+drilled_text job rules late same is =
+    ap (λ w. out_text w (drill_text (open_names rules) job.seed job.lines)) (setting_is job rules late voices.Counts same (ap voice_of (sym is)))
+    ∙ ap (λ m. text_in m job (setting_for job rules) []) (sym is)
 
 module _ (w : Setting) where
   -- the replies to the lines of a first part are no longer than those to all
@@ -89,7 +108,7 @@ module _ (w : Setting) where
       let e : xs ≡ done ++ ys = same_Some _ _ s.takes in
       let (count, front) = taken_is xs ys done e in
       let (n, sent, enough) = sent_part r (Some xs) got got' rose done ys s in
-      let text : out_text w (done ++ ys) ≡ mode_text job w xs = ap (out_text w) (sym e) ∙ sym (served_text job.mode w xs reading) in
+      let text : out_text w (done ++ ys) ≡ mode_text job w xs = ap (out_text w) (sym e) ∙ sym (served_text job.mode job w xs reading) in
       (n, sent ∙ ap (λ t. append_known got (take n t)) text, rw (count, front) enough)
 
   -- a run that was done wrote all
@@ -151,7 +170,7 @@ input_read job w left got got' e sent = on_read_input (reads job.mode) left _ e 
   where
     texts : (left : Option (List ℕ)) → IfSome left (λ bytes. Gives got got' (out_text w bytes)) → IfSome left (λ bytes. Gives got got' (mode_text job w bytes))
     texts None sent = tt
-    texts (Some bytes) sent = sent ∙ ap (append_known got) (sym (served_text job.mode w bytes e))
+    texts (Some bytes) sent = sent ∙ ap (append_known got) (sym (served_text job.mode job w bytes e))
 
 input_unread : (job : PlainJob) (w : Setting) (left got got' : Option (List ℕ)) → reads job.mode ≡ false
     → Gives got got' (mode_text job w []) → OnInput (reads job.mode) left (λ bytes. Gives got got' (mode_text job w bytes))

@@ -1,14 +1,15 @@
 -- What the words of the top call come to.
 use Rattle.std.specs.Prelude.{◌≡◌, ℕ, Option, List, [], ◌++◌, length, map, take}
-use Rattle.std.specs.List.{flat_map}
+use Rattle.std.specs.List.{flat_map, sum_by}
+use Rattle.event_model.specs.Bytes.{plus}
 use Rattle.event_model.specs.Lines.{lines_of}
 use Rattle.event_model.specs.Presence.{in_batch}
 use Rattle.rule_ast.specs.Trees.{PlainStatement}
 use Rattle.pattern_meaning.specs.Replies as told
-use Rattle.pattern_meaning.specs.Replies.{after_all, left_of, replies_to, reply_text, end_text, standing_after}
+use Rattle.pattern_meaning.specs.Replies.{Reply, Silent, Refusing, Changing, after_all, left_of, replies_to, reply_text, change_texts, end_text, drill_text, standing_after}
 use Rattle.event_reader.specs.Machine.{heard}
-use Rattle.etalis_cli.specs.Output.{Setting, start, after, out_text}
-use Rattle.etalis_cli.specs.declared.voices.Voice.TheVariants.{Replies}
+use Rattle.etalis_cli.specs.Output.{Setting, start, after, refusal_in, out_text}
+use Rattle.etalis_cli.specs.declared.voices.Voice.TheVariants.{Replies, Refusals, Counts}
 
 -- the text of a reply for each line, and the end: how many lines came, and whether a batch is open behind them
 abbrev pub IsWritten : List PlainStatement → Option ℕ → List ℕ → Type 0
@@ -17,6 +18,34 @@ IsWritten rules late bytes =
     let lines = map heard (lines_of bytes) in
     out_text (record { rules = rules; late = late; voice = Replies }) bytes
     ≡ flat_map reply_text (replies_to s lines) ++ end_text (length (lines_of bytes)) (in_batch (after_all s lines).history)
+
+-- the refusal of each line that is refused, what stands after the last line, and the end
+abbrev pub IsScratched : List PlainStatement → Option ℕ → List ℕ → Type 0
+IsScratched rules late bytes =
+    let s = told.start rules late in
+    let lines = map heard (lines_of bytes) in
+    out_text (record { rules = rules; late = late; voice = Refusals }) bytes
+    ≡ flat_map refusal_in (replies_to s lines) ++ (change_texts plus (standing_after rules (after_all s lines).history)
+    ++ end_text (length (lines_of bytes)) (in_batch (after_all s lines).history))
+
+-- how many detections a reply tells
+abbrev pub told_in : Reply → ℕ
+told_in Silent = 0
+told_in (Refusing n why) = 0
+told_in (Changing n c) = length c.come
+
+-- how many detections a reply withdraws
+abbrev pub withdrawn_in : Reply → ℕ
+withdrawn_in Silent = 0
+withdrawn_in (Refusing n why) = 0
+withdrawn_in (Changing n c) = length c.gone
+
+-- how many detections the replies tell and withdraw
+abbrev pub IsDrilled : List PlainStatement → Option ℕ → List ℕ → Type 0
+IsDrilled rules late bytes =
+    let replies = replies_to (told.start rules late) (map heard (lines_of bytes)) in
+    out_text (record { rules = rules; late = late; voice = Counts }) bytes
+    ≡ drill_text (sum_by told_in replies) (sum_by withdrawn_in replies) 0 0
 
 -- the replies to the first lines are the first replies
 abbrev pub FirstReplies : Setting → ℕ → List (List ℕ) → Type 0

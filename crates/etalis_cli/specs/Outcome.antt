@@ -1,6 +1,6 @@
 -- How a run over the lines of a source ends.
 use Rattle.std.specs.Prelude.{◌≡◌, ℕ, ◌-◌, ◌<◌, ◌≤◌, ◌⊎◌, List, [], ◌++◌, Option, Result, Ok, Err, IfSome, length, take}
-use Rattle.flow_ports.specs.Flow.{Rose, Takes, Gives, IsAtEnd}
+use Rattle.flow_ports.specs.Flow.{Rose, Takes, Gives, GivesPart, IsAtEnd}
 use Rattle.event_model.specs.Lines.{ended, last_line}
 use Rattle.line_reader.specs.declared.reading.LineReader.{LineReader}
 use Rattle.etalis_cli.specs.Output.{Setting, Talk, start, after, replies, closing, out_text}
@@ -55,6 +55,14 @@ pub record Served (w : Setting) (result : Result (Unit {0}) ServeFault) (left le
     (done : List ℕ) : Type 0 where
   pub takes : Takes left left' done
   pub ends : Ends w result left' got got' rose done
+
+-- the whole text went out, or some first part of it; the source has no part in it
+abbrev pub Written : Result (Unit {0}) ServeFault → Option (List ℕ) → Option (List ℕ) → List ℕ → Type 0
+Written (Ok _) got got' text = Gives got got' text
+Written (Err Read) got got' text = ⊥
+Written (Err Write) got got' text = GivesPart got got' text
+Written (Err Memory) got got' text = GivesPart got got' text
+Written (Err TooLong) got got' text = ⊥
 
 -- which counts have risen, that of the source or that of the output: those that the result names, and no other
 abbrev pub Counted : Result (Unit {0}) ServeFault → ℕ → ℕ → ℕ → ℕ → Type 0

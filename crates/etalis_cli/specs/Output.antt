@@ -1,15 +1,17 @@
 -- What is written for an input: what lines come to, the reply to a line, and the end.
-use Rattle.std.specs.Prelude.{◌≡◌, refl, ℕ, Option, List, [], ◌∷◌, ◌++◌, map}
+use Rattle.std.specs.Prelude.{◌≡◌, refl, ℕ, ◌+◌, Option, List, [], ◌∷◌, ◌++◌, length, map}
 use Rattle.std.specs.List.{flat_map}
 use Rattle.std.proofs.Common.{ap}
+use Rattle.event_model.specs.Bytes.{plus}
 use Rattle.event_model.specs.Lines.{lines_of}
 use Rattle.event_model.specs.Presence.{in_batch}
 use Rattle.rule_ast.specs.Trees.{PlainStatement}
 use Rattle.pattern_meaning.specs.Replies as told
-use Rattle.pattern_meaning.specs.Replies.{State, Reply, after_said, after_all, reply_to_said, replies_to, reply_text, end_text}
+use Rattle.pattern_meaning.specs.Replies.{State, Reply, Silent, Refusing, Changing, after_said, after_all, reply_to_said, replies_to, reply_text, refusal_text, change_texts, end_text, drill_text, standing_after}
 use Rattle.event_reader.specs.Machine.{heard}
 use Rattle.etalis_cli.specs.declared.voices.Voice.{Voice}
-use Rattle.etalis_cli.specs.declared.voices.Voice.TheVariants.{Replies}
+use Rattle.etalis_cli.specs.declared.voices.Voice.TheVariants.{Replies, Refusals, Counts}
+use Rattle.etalis_cli.specs.declared.voices.Tally.{Tally}
 
 -- what a run is made with: the rules, how late an event may come, and how lines are answered
 pub record Setting : Type 0 where
@@ -17,31 +19,65 @@ pub record Setting : Type 0 where
   pub late : Option ℕ
   pub voice : Voice
 
--- what lines have come to, and how they are answered
+-- ---- how lines are answered
+
+abbrev pub refusal_in : Reply → List ℕ
+refusal_in Silent = []
+refusal_in (Refusing n why) = refusal_text n why
+refusal_in (Changing n c) = []
+
+-- what is written of a reply at once
+abbrev pub voiced : Voice → Reply → List ℕ
+voiced Replies reply = reply_text reply
+voiced Refusals reply = refusal_in reply
+voiced Counts reply = []
+
+-- ---- what is counted of the answers
+
+abbrev pub no_tally : Tally
+no_tally = record { told = 0; withdrawn = 0 }
+
+-- the detections that a reply tells, and those that it withdraws
+abbrev pub tallied : Tally → Reply → Tally
+tallied tally Silent = tally
+tallied tally (Refusing n why) = tally
+tallied tally (Changing n c) = record { told = tally.told + length c.come; withdrawn = tally.withdrawn + length c.gone }
+
+abbrev pub counted : Voice → Tally → Reply → Tally
+counted Replies tally reply = tally
+counted Refusals tally reply = tally
+counted Counts tally reply = tallied tally reply
+
+-- ---- from line to line
+
+-- what lines have come to, how they are answered, and what was counted of the answers
 pub record Talk : Type 0 where
   pub state : State
   pub voice : Voice
+  pub tally : Tally
 
 -- before the first line
 abbrev pub start : Setting → Talk
-start w = record { state = told.start w.rules w.late; voice = w.voice }
-
-abbrev pub after_line : Talk → List ℕ → Talk
-after_line t line = record { state = after_said t.state (heard line); voice = t.voice }
-
--- how a reply is written
-abbrev pub voiced : Voice → Reply → List ℕ
-voiced Replies reply = reply_text reply
+start w = record { state = told.start w.rules w.late; voice = w.voice; tally = no_tally }
 
 unfoldable pub reply_to : Talk → List ℕ → List ℕ
 reply_to t line = voiced t.voice (reply_to_said t.state (heard line))
 
--- what is written behind the replies to all lines
-abbrev pub closing_in : Voice → State → List ℕ
-closing_in Replies s = end_text s.count (in_batch s.history)
+unfoldable pub tally_after : Talk → List ℕ → Tally
+tally_after t line = counted t.voice t.tally (reply_to_said t.state (heard line))
+
+abbrev pub after_line : Talk → List ℕ → Talk
+after_line t line = record { state = after_said t.state (heard line); voice = t.voice; tally = tally_after t line }
+
+-- What is written behind the answers to all lines: the end; or what stands, and the end; or the counts of a drill, of which those of
+-- visits and of rows are none so far.
+abbrev pub closing_in : Voice → State → Tally → List ℕ
+closing_in Replies s tally = end_text s.count (in_batch s.history)
+closing_in Refusals s tally = change_texts plus (standing_after s.rules s.history) ++ end_text s.count (in_batch s.history)
+closing_in Counts s tally = drill_text tally.told tally.withdrawn 0 0
 
 abbrev pub closing : Talk → List ℕ
-closing t = closing_in t.voice t.state
+closing t = closing_in t.voice t.state t.tally
 
 abbrev pub after : Talk → List (List ℕ) → Talk
 after t [] = t
@@ -51,7 +87,7 @@ abbrev pub replies : Talk → List (List ℕ) → List ℕ
 replies t [] = []
 replies t (line ∷ lines) = reply_to t line ++ replies (after_line t line) lines
 
--- the replies to the lines of an input, and the end
+-- the answers to the lines of an input, and what is written behind them
 abbrev pub out_text : Setting → List ℕ → List ℕ
 out_text w bytes = replies (start w) (lines_of bytes) ++ closing (after (start w) (lines_of bytes))
 

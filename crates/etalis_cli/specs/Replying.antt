@@ -1,12 +1,21 @@
--- What is refused.
-use Rattle.std.specs.Prelude.{Option, Some, None}
+-- What is refused, and the replies by what lines have come to.
+use Rattle.std.specs.Prelude.{ℕ, Option, Some, None}
 use Rattle.event_model.specs.declared.inputs.Judgement.{Judgement}
 use Rattle.event_model.specs.declared.inputs.Judgement.TheVariants as judgement
 use Rattle.event_model.specs.declared.inputs.Refusal.{Refusal}
 use Rattle.event_model.specs.declared.inputs.Refusal.TheVariants as refusal
+use Rattle.pattern_meaning.specs.Replies.{Change, Reply, Silent, Refusing, Changing}
+use Rattle.etalis_cli.specs.declared.replying.Answer.{Answer}
+use Rattle.etalis_cli.specs.declared.replying.Answer.TheVariants as answer
 
 abbrev pub refusal_of : Judgement → Option Refusal
 refusal_of judgement.Fine = None
 refusal_of judgement.Batch = Some refusal.Batch
 refusal_of (judgement.Below bound) = Some (refusal.Below bound)
 refusal_of judgement.Absent = Some refusal.Absent
+
+-- the reply to line n, where this is what has changed last
+abbrev pub reply_by : ℕ → Answer → Change → Reply
+reply_by n answer.Silent c = Silent
+reply_by n (answer.Refused why) c = Refusing n why
+reply_by n answer.Changed c = Changing n c

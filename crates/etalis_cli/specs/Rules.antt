@@ -4,6 +4,10 @@ use Rattle.std.specs.Str.{IsUtf8, IsValidUpTo}
 use Rattle.rule_ast.specs.Trees.{PlainStatement}
 use Rattle.rule_ast.specs.Plain.{plain_rules}
 use Rattle.rule_ast.specs.declared.statements.RuleSet.{RuleSet}
+use Rattle.step_meaning.specs.PlanOf.{plan_of}
+use Rattle.binariser.specs.declared.faults.TheConstants.{MOST_STEPS}
+use Rattle.etalis_core.specs.StandsFor.{rules_of}
+use Rattle.etalis_core.specs.declared.engine.Engine.{Engine}
 use Rattle.rule_grammar.specs.declared.faults.Which.{Which}
 use Rattle.rule_grammar.specs.declared.faults.Which.TheVariants.{Statements, Parts, Depth, Variables, TermDepth, TermWidth, Length}
 use Rattle.rule_grammar.specs.Files.{Holds}
@@ -23,10 +27,15 @@ pub record IsText (file : List ℕ) : Type 0 where
   pub utf8 : IsUtf8 file
 
 -- the file's text holds these rules, and they are sound
-pub record Accepted (file : List ℕ) (rules : List PlainStatement) : Type 0 where
+pub record HoldsSound (file : List ℕ) (rules : List PlainStatement) : Type 0 where
   pub text : IsText file
   pub holds : Holds file rules
   pub sound : IsSound rules
+
+-- the file holds these rules, and their plan has no more steps than may be
+pub record Accepted (file : List ℕ) (rules : List PlainStatement) : Type 0 where
+  pub sound : HoldsSound file rules
+  pub fits : length (plan_of rules).steps ≤ MOST_STEPS
 
 abbrev pub IsAccepted : List ℕ → Type 0
 IsAccepted file = (rules : List PlainStatement) × Accepted file rules
@@ -43,6 +52,12 @@ pub record IsUnsound (file : List ℕ) (fault : CheckFault) : Type 0 where
   pub first : IsRefusal fault rules
   pub found : fault ≢ check.Memory
 
+-- the file holds rules of which the plan has too many steps
+pub record IsTooGreat (file : List ℕ) : Type 0 where
+  pub rules : List PlainStatement
+  pub sound : HoldsSound file rules
+  pub over : MOST_STEPS < length (plan_of rules).steps
+
 -- the first of these that holds of the file
 abbrev pub IsRefused : List ℕ → FileRefusal → Type 0
 IsRefused file refusal.TooLong = MOST_FILE_BYTES < length file
@@ -50,12 +65,22 @@ IsRefused file (refusal.NotUtf8 at) = (length file ≤ MOST_FILE_BYTES) × IsVal
 IsRefused file (refusal.Syntax at) = IsText file × SyntaxIn file at
 IsRefused file (refusal.Limit which at) = IsText file × LimitIn file which at
 IsRefused file (refusal.Unsound fault) = IsUnsound file fault
+IsRefused file refusal.TooManySteps = IsTooGreat file
 
--- the file is accepted as these rules, or refused for this cause and accepted as none
-abbrev pub Judged : List ℕ → Result RuleSet AcceptFault → Type 0
-Judged file (Ok rules) = Accepted file (plain_rules rules)
-Judged file (Err (fault.Refused cause)) = IsRefused file cause × HasNone file
-Judged file (Err fault.Memory) = Unit {0}
+-- the file is refused for this cause and accepted as no rules, unless memory failed
+abbrev pub IsFault : List ℕ → AcceptFault → Type 0
+IsFault file (fault.Refused cause) = IsRefused file cause × HasNone file
+IsFault file fault.Memory = Unit {0}
+
+-- the file holds these rules, and they are sound; or it is refused
+abbrev pub IsRead : List ℕ → Result RuleSet AcceptFault → Type 0
+IsRead file (Ok rules) = HoldsSound file (plain_rules rules)
+IsRead file (Err fault) = IsFault file fault
+
+-- the file is accepted as the rules of this engine; or it is refused
+abbrev pub IsJudged : List ℕ → Result Engine AcceptFault → Type 0
+IsJudged file (Ok engine) = Accepted file (rules_of engine)
+IsJudged file (Err fault) = IsFault file fault
 
 -- ---- what is told of a refused file
 
@@ -95,3 +120,4 @@ refusal_note (refusal.NotUtf8 at) = placed (codes "etalis: rules: not utf-8 at "
 refusal_note (refusal.Syntax at) = placed (codes "etalis: rules: syntax at ") at
 refusal_note (refusal.Limit which at) = placed (limit_words which) at
 refusal_note (refusal.Unsound fault) = fault_note fault
+refusal_note refusal.TooManySteps = codes "etalis: rules: over 65536 steps\n"

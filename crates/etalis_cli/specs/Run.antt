@@ -3,11 +3,11 @@ use Rattle.std.specs.Prelude.{◌≡◌, ◌≢◌, ℕ, ◌<◌, ◌≤◌, ◌
 use Rattle.flow_ports.specs.Flow.{Rose, Gives, GivesPart}
 use Rattle.event_model.specs.Lines.{ended}
 use Rattle.rule_ast.specs.Trees.{PlainStatement}
-use Rattle.rule_ast.specs.Plain.{plain_rules}
-use Rattle.rule_ast.specs.declared.statements.RuleSet.{RuleSet}
+use Rattle.etalis_core.specs.StandsFor.{rules_of}
+use Rattle.etalis_core.specs.declared.engine.Engine.{Engine}
 use Rattle.etalis_cli.specs.Output.{Setting, start, replies}
 use Rattle.etalis_cli.specs.Modes.{reads, setting_for, mode_text}
-use Rattle.etalis_cli.specs.Outcome.{Served, Counted}
+use Rattle.etalis_cli.specs.Outcome.{Served, Written, Counted}
 use Rattle.job_words.specs.Words.{PlainJob}
 use Rattle.etalis_cli.specs.Rules.{Accepted, IsAccepted, HasNone, IsRefused, refusal_note}
 use Rattle.etalis_cli.specs.declared.refusals.FileRefusal.{FileRefusal}
@@ -84,9 +84,9 @@ WhyNoRules file shelf shelf' WriteFault = ⊥
 WhyNoRules file shelf shelf' Memory = shelf' ≡ shelf
 WhyNoRules file shelf shelf' TooLong = ⊥
 
--- the rules of the file, or why none were read
-abbrev pub RulesRead : Option (List ℕ) → ℕ → ℕ → Result RuleSet Cause → Type 0
-RulesRead file shelf shelf' (Ok rules) = IfSome file (λ f. Accepted f (plain_rules rules)) × (shelf' ≡ shelf)
+-- an engine of the rules of the file, or why none were read
+abbrev pub RulesRead : Option (List ℕ) → ℕ → ℕ → Result Engine Cause → Type 0
+RulesRead file shelf shelf' (Ok engine) = IfSome file (λ f. Accepted f (rules_of engine)) × (shelf' ≡ shelf)
 RulesRead file shelf shelf' (Err cause) = WhyNoRules file shelf shelf' cause
 
 -- the cause that a run over the lines ends with
@@ -109,14 +109,6 @@ pub record ServedBy (asked : Option PlainJob) (holds : List ℕ → Option (List
   pub served : Served (setting_for job rules) result left left' got got' (Rose before.sink now.sink) taken
   pub shelf : now.shelf ≡ before.shelf
   pub counts : Counted result before.source now.source before.sink now.sink
-
--- the whole text went out, or some first part of it; the source has no part in it
-abbrev pub Written : Result (Unit {0}) ServeFault → Option (List ℕ) → Option (List ℕ) → List ℕ → Type 0
-Written (Ok _) got got' text = Gives got got' text
-Written (Err fault.Read) got got' text = ⊥
-Written (Err fault.Write) got got' text = GivesPart got got' text
-Written (Err fault.Memory) got got' text = GivesPart got got' text
-Written (Err fault.TooLong) got got' text = ⊥
 
 -- the rules of the job's file were read, and its text was written by them; the source is the very same, which `unread` says
 pub record WrittenBy (asked : Option PlainJob) (holds : List ℕ → Option (List ℕ)) (unread : Type 0) (result : Result (Unit {0}) ServeFault)

@@ -1,9 +1,13 @@
-// Rule files to rules.
-ghost use Rattle.std.specs.Prelude.{◌≡◌, ℕ, List};
+// Rule files to engines.
+ghost use Rattle.std.specs.Prelude.{◌≡◌, ◌<◌, ℕ, List, IfOk, IfSome};
+ghost use Rattle.event_model.specs.Presence.{no_history};
+ghost use Rattle.event_model.specs.declared.events.TheConstants.{TIME_LIMIT};
 ghost use Rattle.rule_ast.specs.Trees.{PlainStatement};
-ghost use Rattle.etalis_cli.specs.Rules.{Accepted, Judged};
+ghost use Rattle.etalis_core.specs.StandsFor.{StandsFor, late_of};
+ghost use Rattle.etalis_cli.specs.Rules.{Accepted, IsRead, IsJudged};
 
 use crate::refusals::FileRefusal;
+use etalis_core::{Engine, StartFault};
 use rule_check::{CheckFault, Checked, check};
 use rule_parser::{ParseFault, parse};
 use std::alloc::Global;
@@ -11,15 +15,15 @@ use std::alloc::Global;
 /// The most bytes of a rule file.
 pub const MOST_FILE_BYTES: usize = 1_048_576;
 
-/// Why no rules were made of a file.
+/// Why no engine was made of a file.
 pub enum AcceptFault {
     Refused(FileRefusal),
     Memory,
 }
 
-/// The rules that a file is accepted as.
-pub fn accept(alloc: Global, file: &[u8]) -> Result<Checked, AcceptFault>
-    ensures { Judged file.now result }
+// The sound rules that a file holds.
+fn read_sound(alloc: Global, file: &[u8]) -> Result<Checked, AcceptFault>
+    ensures { IsRead file.now result }
 {
     if file.len() > MOST_FILE_BYTES {
         return Err(AcceptFault::Refused(FileRefusal::TooLong));
@@ -42,6 +46,21 @@ pub fn accept(alloc: Global, file: &[u8]) -> Result<Checked, AcceptFault>
             CheckFault::Memory => Err(AcceptFault::Memory),
             fault => Err(AcceptFault::Refused(FileRefusal::Unsound(fault))),
         },
+    }
+}
+
+/// An engine of the rules that a file is accepted as, before the first input.
+pub fn accept(alloc: Global, file: &[u8], late: Option<u64>) -> Result<Engine, AcceptFault>
+    requires { IfSome late (λ l. l < TIME_LIMIT) }
+    ensures judged { IsJudged file.now result }
+    ensures stands { IfOk result (λ engine. StandsFor engine no_history) }
+    ensures late { IfOk result (λ engine. late_of engine ≡ late) }
+{
+    let rules = read_sound(alloc, file)?;
+    match Engine::new(alloc, rules, late) {
+        Ok(engine) => Ok(engine),
+        Err(StartFault::TooMany) => Err(AcceptFault::Refused(FileRefusal::TooManySteps)),
+        Err(StartFault::Memory) => Err(AcceptFault::Memory),
     }
 }
 

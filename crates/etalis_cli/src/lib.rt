@@ -11,6 +11,7 @@ mod replying;
 mod serving;
 mod session;
 mod status;
+mod telling;
 mod top;
 mod voices;
 
@@ -18,8 +19,8 @@ pub use accepting::{MOST_FILE_BYTES, files_have_one_meaning};
 pub use job_words::{Job, Mode, WordsFault, run_words};
 pub use jobs::jobs_are_as_written;
 pub use laws::what_is_written_stands;
-pub use serving::{INPUT_LIMIT, MOST_PIECE_BYTES, ServeFault, serve};
+pub use serving::{INPUT_LIMIT, MOST_PIECE_BYTES, ServeFault, serve, serve_bytes};
 pub use session::Session;
 pub use status::{Status, exit_code};
 pub use top::run;
-pub use voices::Voice;
+pub use voices::{Tally, Voice};

@@ -127,6 +127,7 @@ fn tell_refusal<N: Sink>(notes: &mut N, refusal: &FileRefusal)
         FileRefusal::Syntax(at) => tell_placed(notes, b"etalis: rules: syntax at ", *at),
         FileRefusal::Limit(which, at) => tell_placed(notes, limit_words(*which), *at),
         FileRefusal::Unsound(fault) => tell_fault(notes, fault),
+        FileRefusal::TooManySteps => tell_words(notes, b"etalis: rules: over 65536 steps\n"),
     }
 }
 

@@ -12,4 +12,6 @@ pub enum FileRefusal {
     Limit(Which, usize),
     /// What its rules are refused with; never want of memory.
     Unsound(CheckFault),
+    /// Its rules are sound, and their plan would have more than 65,536 steps.
+    TooManySteps,
 }

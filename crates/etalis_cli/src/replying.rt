@@ -1,22 +1,31 @@
-// Lines to their replies.
-ghost use Rattle.std.specs.Prelude.{◌≡◌, ◌++◌, ◌<◌, ◌≤◌, ℕ, List, length, true, false, IfOk, OnOk};
+// Lines to what they come to.
+ghost use Rattle.std.specs.Prelude.{◌≡◌, ◌<◌, ◌≤◌, ℕ, List, length, true, false, IfOk, OnOk};
 ghost use Rattle.event_model.specs.Lines.{without_cr};
 ghost use Rattle.event_model.specs.Presence.{History, all_inputs, extended, settles, verdict, after_verdict};
 ghost use Rattle.event_model.specs.declared.inputs.TheConstants.{MOST_LINE_BYTES};
 ghost use Rattle.line_reader.specs.Cutting.{IsLine};
-ghost use Rattle.pattern_meaning.specs.Replies.{change_by, both_texts, says_nothing, reply, reply_to_input, reply_text};
+ghost use Rattle.pattern_meaning.specs.Replies.{change_by, says_nothing, reply, reply_to_input};
 ghost use Rattle.event_reader.specs.Machine.{heard};
 ghost use Rattle.etalis_core.specs.StandsFor.{StandsFor, WorksFrom, CanBegin, rules_of, late_of, last_change, is_working, is_spent};
 ghost use Rattle.etalis_core.specs.declared.present.TheConstants.{MOST_COPIES};
-ghost use Rattle.etalis_cli.specs.Replying.{refusal_of};
+ghost use Rattle.etalis_cli.specs.Replying.{refusal_of, reply_by};
 
-use detect_writer::{change_text, ok_text, refusal_text};
 use etalis_core::Engine;
 use event_changes::Progress;
 use event_model::{Input, Judgement, MOST_LINE_BYTES, Refusal};
 use event_reader::{LineFault, parse_line};
 use line_reader::Line;
 use std::alloc::{AllocError, Global};
+
+/// What a line has come to.
+#[derive(Clone, Copy, Debug, PartialEq, Eq)]
+pub enum Answer {
+    /// There is nothing to tell.
+    Silent,
+    Refused(Refusal),
+    /// What the engine tells has changed, which may be nothing.
+    Changed,
+}
 
 // How many visits a turn of the engine may make.
 const UNITS: u32 = 1024;
@@ -87,90 +96,68 @@ fn accept(engine: &mut Engine, input: Input) -> Result<bool, AllocError>
     Ok(true)
 }
 
-// The lines of what changed last.
-fn push_changes(engine: &Engine, out: &mut Vec<u8>) -> Result<(), AllocError>
-    requires resting { is_working engine.now ≡ false }
-    requires unspent { is_spent engine.now ≡ false }
-    ensures { OnOk result (out.new.items ≡ out.old.items ++ both_texts (last_change engine.now)) }
-{
-    for changed in engine.changes() {
-        change_text(changed.sign, changed.detection, out)?;
-    }
-    Ok(())
-}
-
-// Accepts an input that is fine, and appends its reply.
-fn answer_input(
-    engine: &mut Engine,
-    number: u64,
-    input: Input,
-    out: &mut Vec<u8>,
-) -> Result<(), AllocError>
+// Accepts an input that is fine.
+fn take_input(engine: &mut Engine, input: Input) -> Result<Answer, AllocError>
     requires { (h : History) × CanBegin engine.old h input }
     ensures stands { (h : History) → StandsFor engine.old h → OnOk result (StandsFor engine.new (extended h input)) }
-    ensures text { (h : History) → StandsFor engine.old h
-        → OnOk result (out.new.items ≡ out.old.items ++ reply_text (reply_to_input (rules_of engine.old) h number input)) }
+    ensures reply { (h : History) → StandsFor engine.old h → IfOk result (λ answer. (n : ℕ)
+        → reply_by n answer (last_change engine.new) ≡ reply_to_input (rules_of engine.old) h n input) }
+    ensures resting { OnOk result (is_working engine.new ≡ false) }
+    ensures unspent { OnOk result (is_spent engine.new ≡ false) }
     ensures rules { OnOk result (rules_of engine.new ≡ rules_of engine.old) }
     ensures late { OnOk result (late_of engine.new ≡ late_of engine.old) }
 {
     let silent = says_nothing(&input);
     let settled = accept(engine, input)?;
     if !settled || silent {
-        return Ok(());
+        return Ok(Answer::Silent);
     }
-    push_changes(engine, out)?;
-    ok_text(number, out)
+    Ok(Answer::Changed)
 }
 
-// Appends the reply to line N, which isn't too long, and accepts it where it is fine.
-fn answer_line(
-    alloc: Global,
-    engine: &mut Engine,
-    number: u64,
-    line: &[u8],
-    out: &mut Vec<u8>,
-) -> Result<(), AllocError>
+// Judges a line that isn't too long, and accepts it where it is fine.
+fn take_short(alloc: Global, engine: &mut Engine, line: &[u8]) -> Result<Answer, AllocError>
     requires stands { (h : History) × StandsFor engine.old h × (length (all_inputs h) < MOST_COPIES) }
     requires short { length line.now ≤ MOST_LINE_BYTES }
     ensures stands { (h : History) → StandsFor engine.old h → let judged = verdict (late_of engine.old) h (heard line.now) in
         OnOk result (StandsFor engine.new (after_verdict h judged)) }
-    ensures text { (h : History) → StandsFor engine.old h → let judged = verdict (late_of engine.old) h (heard line.now) in
-        OnOk result (out.new.items ≡ out.old.items ++ reply_text (reply (rules_of engine.old) h number judged)) }
+    ensures reply { (h : History) → StandsFor engine.old h → let judged = verdict (late_of engine.old) h (heard line.now) in
+        IfOk result (λ answer. (n : ℕ)
+        → reply_by n answer (last_change engine.new) ≡ reply (rules_of engine.old) h n judged) }
+    ensures resting { OnOk result (is_working engine.new ≡ false) }
+    ensures unspent { OnOk result (is_spent engine.new ≡ false) }
     ensures rules { OnOk result (rules_of engine.new ≡ rules_of engine.old) }
     ensures late { OnOk result (late_of engine.new ≡ late_of engine.old) }
 {
     let input = match parse_line(alloc, line) {
         Ok(input) => input,
-        Err(LineFault::Syntax(at)) => return refusal_text(number, Refusal::Syntax(at as u64), out),
+        Err(LineFault::Syntax(at)) => return Ok(Answer::Refused(Refusal::Syntax(at as u64))),
         Err(LineFault::Memory) => return Err(AllocError),
     };
     match refusal_of(engine.judge(&input)) {
-        Some(refusal) => refusal_text(number, refusal, out),
-        None => answer_input(engine, number, input, out),
+        Some(refusal) => Ok(Answer::Refused(refusal)),
+        None => take_input(engine, input),
     }
 }
 
-/// Appends the reply to line N, and accepts it where it is fine. After an `Err` no more lines should follow.
-pub fn reply_line(
-    alloc: Global,
-    engine: &mut Engine,
-    number: u64,
-    line: Line<'_>,
-    out: &mut Vec<u8>,
-) -> Result<(), AllocError>
+/// Judges a line, and accepts it where it is fine. After an `Err` no more lines should follow.
+pub fn take_line(alloc: Global, engine: &mut Engine, line: Line<'_>) -> Result<Answer, AllocError>
     requires stands { (h : History) × StandsFor engine.old h × (length (all_inputs h) < MOST_COPIES) }
     requires line { (raw : List ℕ) × IsLine line raw }
     ensures stands { (h : History) (raw : List ℕ) → StandsFor engine.old h → IsLine line.entry raw
         → let judged = verdict (late_of engine.old) h (heard (without_cr raw)) in
         OnOk result (StandsFor engine.new (after_verdict h judged)) }
-    ensures text { (h : History) (raw : List ℕ) → StandsFor engine.old h → IsLine line.entry raw
+    ensures reply { (h : History) (raw : List ℕ) → StandsFor engine.old h → IsLine line.entry raw
         → let judged = verdict (late_of engine.old) h (heard (without_cr raw)) in
-        OnOk result (out.new.items ≡ out.old.items ++ reply_text (reply (rules_of engine.old) h number judged)) }
+        IfOk result (λ answer. (n : ℕ)
+        → reply_by n answer (last_change engine.new) ≡ reply (rules_of engine.old) h n judged) }
+    ensures resting { OnOk result (is_working engine.new ≡ false) }
+    ensures unspent { OnOk result (is_spent engine.new ≡ false) }
     ensures rules { OnOk result (rules_of engine.new ≡ rules_of engine.old) }
     ensures late { OnOk result (late_of engine.new ≡ late_of engine.old) }
 {
     match line {
-        Line::Bytes(bytes) => answer_line(alloc, engine, number, bytes, out),
-        Line::Long => refusal_text(number, Refusal::Syntax(MOST_LINE_BYTES as u64), out),
+        Line::Bytes(bytes) => take_short(alloc, engine, bytes),
+        Line::Long => Ok(Answer::Refused(Refusal::Syntax(MOST_LINE_BYTES as u64))),
     }
 }

@@ -1,10 +1,10 @@
 // The lines of a source, to their replies.
-ghost use Rattle.std.specs.Prelude.{◌≡◌, ◌<◌, ◌≤◌, ℕ, List, OnOk, OnErr, IsErrOf};
+ghost use Rattle.std.specs.Prelude.{◌≡◌, ◌<◌, ◌≤◌, ℕ, List, length, OnOk, OnErr, IsErrOf};
 ghost use Rattle.flow_ports.specs.Flow.{Rose, Gives, GivesPart};
-ghost use Rattle.etalis_cli.specs.Output.{Talk, start};
+ghost use Rattle.etalis_cli.specs.Output.{Talk, start, out_text};
 ghost use Rattle.etalis_cli.specs.StandsFor.{StandsFor, setting_of};
 ghost use Rattle.etalis_cli.specs.Feeds.{Between};
-ghost use Rattle.etalis_cli.specs.Outcome.{Served, Counted, tail};
+ghost use Rattle.etalis_cli.specs.Outcome.{Served, Written, Counted, tail};
 ghost use Rattle.etalis_core.specs.declared.present.TheConstants.{MOST_COPIES};
 
 use crate::feeding::{FeedFault, feed};
@@ -86,6 +86,27 @@ fn finish<O: Sink>(
         Ok(()) => Ok(()),
         Err(Failed) => Err(ServeFault::Write),
     }
+}
+
+/// Writes what an input of these bytes comes to, from a session to which no line came.
+pub fn serve_bytes<O: Sink>(
+    alloc: Global,
+    session: &mut Session,
+    bytes: &[u8],
+    out: &mut O,
+) -> Result<(), ServeFault>
+    requires stands { StandsFor session.old (start (setting_of session.old)) }
+    ensures written { Written result (O.got out.old) (O.got out.new) (out_text (setting_of session.old) bytes.now) }
+    ensures counts { (n : ℕ) → Counted result n n (O.faults out.old) (O.faults out.new) }
+{
+    let mut reader = LineReader::new(alloc);
+    let mut text = Vec::new(alloc);
+    match feed(session, &mut reader, &mut text, out, bytes) {
+        Ok(()) => {}
+        Err(FeedFault::Memory) => return Err(ServeFault::Memory),
+        Err(FeedFault::Write) => return Err(ServeFault::Write),
+    }
+    finish(session, &mut reader, &mut text, out)
 }
 
 /// Reads the source to its end, and writes the replies to the lines of each piece as soon as it is

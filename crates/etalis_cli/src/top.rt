@@ -1,35 +1,50 @@
 // The top call.
-ghost use Rattle.std.specs.Prelude.{◌≡◌, ◌<◌, ◌≤◌, ◌⊎◌, ℕ, List, None, true, false, IfSome, length};
+ghost use Rattle.std.specs.Prelude.{◌≡◌, ◌<◌, ◌≤◌, ◌⊎◌, ℕ, List, None, true, false, IfOk, IfSome, length};
 ghost use Rattle.flow_ports.specs.Flow.{Rose, Takes, Gives, GivesPart, IsAtEnd};
 ghost use Rattle.event_model.specs.Lines.{ended};
 ghost use Rattle.event_model.specs.declared.events.TheConstants.{TIME_LIMIT};
 ghost use Rattle.rule_ast.specs.Plain.{plain_rules};
 ghost use Rattle.rule_writer.specs.Canonical.{canonical};
-ghost use Rattle.etalis_cli.specs.Output.{start, replies};
+ghost use Rattle.event_model.specs.Presence.{no_history};
+ghost use Rattle.etalis_core.specs.StandsFor.{StandsFor, rules_of, late_of};
+ghost use Rattle.drill_lines.specs.DrillText.{drill_text};
+ghost use Rattle.drill_lines.specs.OpenNames.{open_names};
+ghost use Rattle.drill_lines.specs.declared.lines.TheConstants.{MOST_LINES};
+ghost use Rattle.etalis_cli.specs.Output.{start, replies, out_text};
 ghost use Rattle.etalis_cli.specs.Modes.{reads, job_reads, mode_text, OnInput};
-ghost use Rattle.etalis_cli.specs.Outcome.{Served, Counted};
+ghost use Rattle.etalis_cli.specs.Outcome.{Served, Written, Counted};
+ghost use Rattle.etalis_cli.specs.declared.voices.Voice.TheVariants.{Counts};
 ghost use Rattle.etalis_cli.specs.Rules.{IsAccepted, HasNone};
 ghost use Rattle.etalis_cli.specs.Words.{form};
-ghost use Rattle.etalis_cli.specs.Run.{cause_of, Written, RulesRead, RunEnds, CountsAt, NoneFell, IsNoteOf, PartFor, file_of, MayAsk, OnRules, OnTaken, WasServed, IsComplete};
+ghost use Rattle.etalis_cli.specs.Run.{cause_of, RulesRead, RunEnds, CountsAt, NoneFell, IsNoteOf, PartFor, file_of, MayAsk, OnRules, OnTaken, WasServed, IsComplete};
 
 use crate::accepting::{AcceptFault, MOST_FILE_BYTES, accept};
-use crate::jobs::read_job;
+use crate::jobs::{read_job, voice_of};
 use crate::notes::tell;
 use crate::refusals::FileRefusal;
-use crate::serving::{INPUT_LIMIT, ServeFault, serve};
+use crate::serving::{INPUT_LIMIT, ServeFault, serve, serve_bytes};
 use crate::session::Session;
 use crate::status::{Cause, Status, status_of};
 use crate::voices::Voice;
+use drill_lines::drill_lines;
+use etalis_core::Engine;
 use flow_ports::{Failed, Shelf, Sink, Source, WholeFault, read_whole, write_whole};
 use job_words::{Mode, WordsFault};
-use rule_check::Checked;
 use rule_writer::rules_text;
 use std::alloc::Global;
 
-// Reads the rule file. An `Err` is the cause to end with.
-fn read_rules<S: Shelf>(alloc: Global, shelf: &mut S, name: &str) -> Result<Checked, Cause>
-    requires { S.serves shelf.old name.now ≡ true }
-    ensures { RulesRead (S.holds shelf.old name.now) (S.faults shelf.old) (S.faults shelf.new) result }
+// Reads the rule file, and makes an engine by it. An `Err` is the cause to end with.
+fn read_rules<S: Shelf>(
+    alloc: Global,
+    shelf: &mut S,
+    name: &str,
+    late: Option<u64>,
+) -> Result<Engine, Cause>
+    requires serves { S.serves shelf.old name.now ≡ true }
+    requires late { IfSome late (λ l. l < TIME_LIMIT) }
+    ensures read { RulesRead (S.holds shelf.old name.now) (S.faults shelf.old) (S.faults shelf.new) result }
+    ensures stands { IfOk result (λ engine. StandsFor engine no_history) }
+    ensures late { IfOk result (λ engine. late_of engine ≡ late) }
 {
     let file = match read_whole(alloc, shelf, name, MOST_FILE_BYTES) {
         Ok(file) => file,
@@ -37,8 +52,8 @@ fn read_rules<S: Shelf>(alloc: Global, shelf: &mut S, name: &str) -> Result<Chec
         Err(WholeFault::TooLong) => return Err(Cause::RulesRefused(FileRefusal::TooLong)),
         Err(WholeFault::Memory) => return Err(Cause::Memory),
     };
-    match accept(alloc, &file) {
-        Ok(rules) => Ok(rules),
+    match accept(alloc, &file, late) {
+        Ok(engine) => Ok(engine),
         Err(AcceptFault::Refused(refusal)) => Err(Cause::RulesRefused(refusal)),
         Err(AcceptFault::Memory) => Err(Cause::Memory),
     }
@@ -57,34 +72,53 @@ fn cause_of(outcome: Result<(), ServeFault>) -> Cause
     }
 }
 
-// Serves the lines by rules, from a session of its own.
-fn serve_rules<I: Source, O: Sink>(
+// Serves the lines of the source.
+fn serve_lines<I: Source, O: Sink>(
     alloc: Global,
-    rules: Checked,
-    late: Option<u64>,
+    engine: Engine,
     voice: Voice,
     input: &mut I,
     out: &mut O,
 ) -> Result<(), ServeFault>
-    requires { IfSome late (λ l. l < TIME_LIMIT) }
-    ensures served { (done : List ℕ) × Served record { rules = plain_rules rules; late = late; voice = voice } result
+    requires { StandsFor engine no_history }
+    ensures served { (done : List ℕ) × Served record { rules = rules_of engine; late = late_of engine; voice = voice } result
         (I.left input.old) (I.left input.new) (O.got out.old) (O.got out.new) (Rose (O.faults out.old) (O.faults out.new)) done }
     ensures counts { Counted result (I.faults input.old) (I.faults input.new) (O.faults out.old) (O.faults out.new) }
 {
-    let mut session = Session::new(alloc, rules, late, voice)?;
+    let mut session = Session::new(alloc, engine, voice);
     serve(alloc, &mut session, input, out)
 }
 
 // Writes the canonical text of the rules.
-fn write_rules<O: Sink>(alloc: Global, rules: &Checked, out: &mut O) -> Result<(), ServeFault>
-    ensures written { Written result (O.got out.old) (O.got out.new) (canonical (plain_rules rules.now)) }
+fn write_rules<O: Sink>(alloc: Global, engine: &Engine, out: &mut O) -> Result<(), ServeFault>
+    ensures written { Written result (O.got out.old) (O.got out.new) (canonical (rules_of engine.now)) }
     ensures counts { (n : ℕ) → Counted result n n (O.faults out.old) (O.faults out.new) }
 {
-    let text = rules_text(alloc, rules.rules())?;
+    let text = rules_text(alloc, engine.checked().rules())?;
     match write_whole(out, &text) {
         Ok(()) => Ok(()),
         Err(Failed) => Err(ServeFault::Write),
     }
+}
+
+// Writes what the lines come to that the seed makes for the rules.
+fn write_drill<O: Sink>(
+    alloc: Global,
+    engine: Engine,
+    seed: u64,
+    lines: u64,
+    out: &mut O,
+) -> Result<(), ServeFault>
+    requires stands { StandsFor engine no_history }
+    requires lines { lines ≤ MOST_LINES }
+    ensures written { Written result (O.got out.old) (O.got out.new)
+        (out_text record { rules = rules_of engine; late = late_of engine; voice = Counts }
+        (drill_text (open_names (rules_of engine)) seed lines)) }
+    ensures counts { (n : ℕ) → Counted result n n (O.faults out.old) (O.faults out.new) }
+{
+    let lines = drill_lines(alloc, engine.checked().rules(), seed, lines)?;
+    let mut session = Session::new(alloc, engine, Voice::Counts);
+    serve_bytes(alloc, &mut session, &lines, out)
 }
 
 // All of a run but its note.
@@ -106,21 +140,23 @@ fn work<S: Shelf, I: Source, O: Sink>(
         Err(WordsFault::Usage) => return Cause::Usage,
         Err(WordsFault::Memory) => return Cause::Memory,
     };
-    let rules = match read_rules(alloc, shelf, job.rules.as_str()) {
-        Ok(rules) => rules,
+    let engine = match read_rules(alloc, shelf, job.rules.as_str(), job.late) {
+        Ok(engine) => engine,
         Err(cause) => return cause,
     };
     match job.mode {
-        Mode::Check => cause_of(write_rules(alloc, &rules, out)),
-        Mode::Run | Mode::Scratch | Mode::Held | Mode::Drill => {
-            cause_of(serve_rules(alloc, rules, job.late, Voice::Replies, input, out))
+        Mode::Check => cause_of(write_rules(alloc, &engine, out)),
+        Mode::Drill => cause_of(write_drill(alloc, engine, job.seed, job.lines, out)),
+        Mode::Run | Mode::Scratch | Mode::Held => {
+            cause_of(serve_lines(alloc, engine, voice_of(job.mode), input, out))
         }
     }
 }
 
-/// Does the job of the words with the rule file: mode `run` reads the lines and writes the replies, and
-/// mode `check` writes the canonical text of the rules. A note says why the run ended, where it wasn't
-/// done; a failure to write the note is dropped.
+/// Does the job of the words with the rule file. Mode `run` reads the lines and writes the replies. Mode `scratch` reads the lines, and
+/// writes the refusals and then what stands. Mode `check` writes the canonical text of the rules, and mode `drill` how many detections
+/// are told and withdrawn over lines that a seed makes; these two don't touch the source. A note says why the run ended, where it
+/// wasn't done; a failure to write the note is dropped.
 pub fn run<S: Shelf, I: Source, O: Sink, N: Sink>(
     alloc: Global,
     words: &[String],

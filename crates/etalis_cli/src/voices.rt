@@ -1,8 +1,19 @@
-// How lines are answered.
+// How lines are answered, and what is counted of the answers.
 
 /// How the lines of an input are answered.
 #[derive(Clone, Copy, Debug, PartialEq, Eq)]
 pub enum Voice {
     /// Each line by its reply, and then the end.
     Replies,
+    /// A line that is refused by its refusal; behind the last line stands what stands then, and the end.
+    Refusals,
+    /// No line; behind the last one stands how many detections were told and withdrawn.
+    Counts,
+}
+
+/// How many detections were told and withdrawn.
+#[derive(Clone, Copy, Debug, PartialEq, Eq)]
+pub struct Tally {
+    pub told: u128,
+    pub withdrawn: u128,
 }

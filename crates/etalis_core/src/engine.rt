@@ -2,8 +2,10 @@
 use crate::faults::{EngineFault, StartFault};
 use crate::ledger::Ledger;
 use crate::table::Table;
+use binariser::{PlanFault, binarise};
 use event_changes::{Changes, Progress};
-use event_model::{Input, Judgement};
+use event_model::{Detection, Input, Judgement};
+use rule_ast::Plan;
 use rule_check::Checked;
 use std::alloc::Global;
 
@@ -40,24 +42,28 @@ pub struct Engine {
     alloc: Global,
     rules: Checked,
     late: Option<u64>,
+    // Of these rules. What stands is still found from scratch, without it.
+    plan: Plan,
     ledger: Ledger,
     table: Table,
     state: State,
 }
 
 impl Engine {
-    ghost use Rattle.std.specs.Prelude.{◌≡◌, ◌⊎◌, ◌↔◌, ◌<◌, [], true, false, IfSome, IfOk, OnOk, OnErr, IsErrOf};
+    ghost use Rattle.std.specs.Prelude.{◌≡◌, ◌⊎◌, ◌↔◌, ◌<◌, ◌≤◌, [], length, true, false, IfSome, IfOk, OnOk, OnErr, IsErrOf};
     ghost use Rattle.event_model.specs.declared.events.TheConstants.{TIME_LIMIT};
     ghost use Rattle.event_model.specs.declared.inputs.Input.{Input};
     ghost use Rattle.event_model.specs.Presence.{History, no_history, settled, in_batch, extended, settles, bound, judge};
     ghost use Rattle.rule_ast.specs.Plain.{plain_rules};
-    ghost use Rattle.pattern_meaning.specs.Replies.{change_by};
+    ghost use Rattle.pattern_meaning.specs.Replies.{change_by, standing_after};
+    ghost use Rattle.step_meaning.specs.PlanOf.{plan_of};
+    ghost use Rattle.binariser.specs.declared.faults.TheConstants.{MOST_STEPS};
     ghost use Rattle.event_changes.specs.Told.{changes_left, signed};
     ghost use Rattle.event_changes.specs.declared.changes.Progress.TheVariants.{More, Done};
     ghost use Rattle.etalis_core.specs.StandsFor.{rules_of, late_of, is_working, is_spent, last_change, work_left, StandsFor, WorksFrom, CanBegin};
 
     /// Before the first input. The lateness is how far the time of an event may lie behind the greatest that came; without one
-    /// events raise no bound.
+    /// events raise no bound. Rules whose plan has more than 65,536 steps have no engine.
     pub fn new(alloc: Global, checked: Checked, late: Option<u64>) -> Result<Engine, StartFault>
         requires { IfSome late (λ ticks. ticks < TIME_LIMIT) }
         ensures stands { IfOk result (λ engine. StandsFor engine no_history) }
@@ -66,12 +72,20 @@ impl Engine {
         ensures change { IfOk result (λ engine. last_change engine ≡ record { gone = []; come = [] }) }
         ensures resting { IfOk result (λ engine. is_working engine ≡ false) }
         ensures unspent { IfOk result (λ engine. is_spent engine ≡ false) }
+        ensures fits { IfOk result (λ engine. length (plan_of (plain_rules checked)).steps ≤ MOST_STEPS) }
+        ensures too_many { IsErrOf result StartFault.TooMany → MOST_STEPS < length (plan_of (plain_rules checked)).steps }
     {
+        let plan = match binarise(alloc, &checked) {
+            Ok(plan) => plan,
+            Err(PlanFault::TooMany) => return Err(StartFault::TooMany),
+            Err(PlanFault::Memory) => return Err(StartFault::Memory),
+        };
         let table = Table::new(alloc, &checked, &[])?;
         Ok(Engine {
             alloc,
             rules: checked,
             late,
+            plan,
             ledger: Ledger::new(alloc),
             table,
             state: State::Resting,
@@ -189,6 +203,33 @@ impl Engine {
         self.ledger.settle();
         self.state = State::Resting;
         Ok(Progress::Done)
+    }
+
+    /// What stands after all that is settled, in order and each once.
+    pub fn standing(&self) -> &[Detection]
+        requires resting { is_working self.now ≡ false }
+        requires unspent { is_spent self.now ≡ false }
+        ensures { (history : History) → StandsFor self.now history → result.now ≡ standing_after (rules_of self.now) history }
+    {
+        self.table.standing()
+    }
+
+    /// The detections that the last input for which it worked has taken away, in order.
+    pub fn gone(&self) -> &[Detection]
+        requires resting { is_working self.now ≡ false }
+        requires unspent { is_spent self.now ≡ false }
+        ensures { result.now ≡ (last_change self.now).gone }
+    {
+        self.table.gone()
+    }
+
+    /// The detections that the last input for which it worked has brought, in order.
+    pub fn come(&self) -> &[Detection]
+        requires resting { is_working self.now ≡ false }
+        requires unspent { is_spent self.now ≡ false }
+        ensures { result.now ≡ (last_change self.now).come }
+    {
+        self.table.come()
     }
 
     /// What the last input for which it worked has changed: the detections that have gone, and then those that have come.

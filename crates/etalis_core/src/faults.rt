@@ -5,6 +5,9 @@ use thiserror::Error;
 /// Why an engine isn't made.
 #[derive(Clone, Copy, Debug, PartialEq, Eq, Error)]
 pub enum StartFault {
+    /// The plan of the rules would have more than 65,536 steps.
+    #[error("over 65536 steps")]
+    TooMany,
     #[error("out of memory")]
     Memory,
 }

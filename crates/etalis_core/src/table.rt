@@ -52,6 +52,12 @@ impl Table {
         })
     }
 
+    pub fn standing(&self) -> &[Detection]
+        ensures { result.now ≡ self.now.standing.items }
+    {
+        &self.standing
+    }
+
     pub fn gone(&self) -> &[Detection]
         ensures { result.now ≡ (change_of self.now).gone }
     {

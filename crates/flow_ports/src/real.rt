@@ -3,9 +3,9 @@ ghost use Rattle.std.specs.Prelude.{◌≡◌, ℕ, List, Bool, true, false, Opt
 
 use crate::ports::{Failed, Shelf, Sink, Source};
 use crate::whole::copy_front;
+use std::alloc::Global;
 use std::fs;
-use std::io::{Read, Write};
-use std::os::unix::fs::FileExt;
+use std::io::{self, Read, Seek, SeekFrom, Write};
 use std::rt::Files;
 
 const CHUNK: usize = 8192;
@@ -122,21 +122,81 @@ impl<W: Write> Sink for ToWriter<W> {
     }
 }
 
-/// The files of the system, of whose bytes nothing is known.
+// A file that is open, and the place up to which it was read.
+#[derive(Drop)]
+struct OpenFile {
+    name: String,
+    file: fs::File,
+    place: u64,
+}
+
+impl OpenFile {
+    ghost use Rattle.std.specs.Io.{ReadsAtMost};
+
+    // Reads on where that is the place that is asked for, so that a pipe can be read too, and seeks only elsewhere.
+    fn read_at(&mut self, at: u64, buf: &mut [u8]) -> io::Result<usize>
+        ensures { ReadsAtMost result buf.new }
+    {
+        if at != self.place {
+            self.place = self.file.seek(SeekFrom::Start(at))?;
+        }
+        let n = self.file.read(buf)?;
+        self.place = self.place.saturating_add(n as u64);
+        Ok(n)
+    }
+}
+
+/// The files of the system, of whose bytes nothing is known. The file that was read last stays open, so that a pipe
+/// is read to its end too.
 #[derive(Drop)]
 pub struct FileShelf<R> {
+    alloc: Global,
     files: R,
+    open: Option<OpenFile>,
     faults: u64,
 }
 
 impl<R: Files<File = fs::File>> FileShelf<R> {
+    ghost use Rattle.std.specs.Io.{ReadsAtMost};
+
     /// Over the files that the runtime opens.
-    pub fn new(files: R) -> Self
+    pub fn new(alloc: Global, files: R) -> Self
         ensures serves { (name : List ℕ) → IsTrue (⟦<FileShelf<R> as Shelf>⟧.serves result name) }
         ensures holds { (name : List ℕ) → ⟦<FileShelf<R> as Shelf>⟧.holds result name ≡ None }
         ensures faults { ⟦<FileShelf<R> as Shelf>⟧.faults result ≡ 0 }
     {
-        FileShelf { files, faults: 0 }
+        FileShelf {
+            alloc,
+            files,
+            open: None,
+            faults: 0,
+        }
+    }
+
+    // The file of that name: the one that is open, where it has that name and isn't read from its begin.
+    fn take_file(&mut self, name: &str, at: u64) -> io::Result<OpenFile>
+        ensures { self.new.faults ≡ self.old.faults }
+    {
+        if let Some(open) = self.open.take() {
+            if at > 0 && open.name.as_str() == name {
+                return Ok(open);
+            }
+        }
+        Ok(OpenFile {
+            name: String::from_str(self.alloc, name)?,
+            file: fs::open(&self.files, name)?,
+            place: 0,
+        })
+    }
+
+    fn try_read(&mut self, name: &str, at: u64, buf: &mut [u8]) -> io::Result<usize>
+        ensures bound { ReadsAtMost result buf.new }
+        ensures faults { self.new.faults ≡ self.old.faults }
+    {
+        let mut open = self.take_file(name, at)?;
+        let read = open.read_at(at, buf);
+        self.open = Some(open);
+        read
     }
 }
 
@@ -148,11 +208,7 @@ impl<R: Files<File = fs::File>> Shelf for FileShelf<R> {
     ghost faults = { λ s. s.faults };
 
     fn read_at(&mut self, name: &str, at: u64, buf: &mut [u8]) -> Result<usize, Failed> {
-        let read = match fs::open(&self.files, name) {
-            Ok(file) => file.read_at(buf, at),
-            Err(error) => Err(error),
-        };
-        match read {
+        match self.try_read(name, at, buf) {
             Ok(n) => Ok(n),
             Err(_) => {
                 self.faults = self.faults.saturating_add(1);

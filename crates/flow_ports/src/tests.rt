@@ -1,6 +1,6 @@
 use crate::{
-    Failed, FileShelf, FromReader, MemShelf, MemSink, MemSource, Source, ToWriter, WholeFault,
-    read_whole, write_whole,
+    Failed, FileShelf, FromReader, MemShelf, MemSink, MemSource, Shelf, Source, ToWriter,
+    WholeFault, read_whole, write_whole,
 };
 use std::fs;
 use std::test::Fail;
@@ -15,12 +15,37 @@ fn a_file_gives_what_it_took(rt: HostRuntime) -> Result<(), Fail> {
     assert_eq!(rt; source.read(&mut buf), Ok(5));
     assert_eq!(rt; source.read(&mut buf), Ok(0));
     assert_eq!(rt; buf, *b"abcde\0\0\0");
-    let mut shelf = FileShelf::new(&rt);
+    let mut shelf = FileShelf::new(rt.alloc(), &rt);
     let bytes = read_whole(rt.alloc(), &mut shelf, FILE, 5)?;
     assert_eq!(rt; bytes.as_slice(), b"abcde".as_slice());
     fs::remove_file(&rt, FILE)?;
     let absent = read_whole(rt.alloc(), &mut shelf, FILE, 5).err();
     assert_eq!(rt; absent, Some(WholeFault::Failed));
+    Ok(())
+}
+
+// A place that isn't the next one, of the file that is open and of another.
+#[test]
+fn files_are_read_from_any_place(rt: HostRuntime) -> Result<(), Fail> {
+    let names = ["flow_ports_first", "flow_ports_second"];
+    write_whole(&mut ToWriter::new(fs::create(&rt, names[0])?), b"abcde")?;
+    write_whole(&mut ToWriter::new(fs::create(&rt, names[1])?), b"vwxyz")?;
+    let mut shelf = FileShelf::new(rt.alloc(), &rt);
+    let mut buf = [0; 2];
+    let rows = [
+        (0, 0, b"ab", 2),
+        (0, 2, b"cd", 2),
+        (1, 3, b"yz", 2),
+        (1, 1, b"wx", 2),
+        (0, 3, b"de", 2),
+        (0, 5, b"de", 0),
+    ];
+    for row in rows {
+        assert_eq!(rt; shelf.read_at(names[row.0], row.1, &mut buf), Ok(row.3));
+        assert_eq!(rt; buf, *row.2);
+    }
+    fs::remove_file(&rt, names[0])?;
+    fs::remove_file(&rt, names[1])?;
     Ok(())
 }
 

@@ -1,85 +1,9 @@
 // Whole runs: what is written, and the status, for an input in pieces and with calls that fail.
-use etalis_cli::{Mode, Status, run, run_words};
-use flow_ports::{MemShelf, MemSink, MemSource};
-use std::alloc::{AllocError, Global};
-use std::process::Abort;
+use crate::fixtures::{AB, CALM, Setting, run_over, writes};
+use etalis_cli::Status;
 use std::test::Fail;
 
-const AB: &[u8] = b"ab(X) <- a(X) SEQ b(X).\n";
-
 const ABSENT: &[u8] = b"n(X) <- NOT(c(X)).[a(X),b(X)].";
-
-// Which calls of the objects fail, and in which pieces the input comes.
-#[derive(Clone, Copy)]
-struct Setting<'a> {
-    pieces: &'a [usize],
-    shelf_fails: &'a [u64],
-    input_fails: &'a [u64],
-    out_fails: &'a [u64],
-    notes_fail: &'a [u64],
-}
-
-const CALM: Setting<'static> = Setting {
-    pieces: &[],
-    shelf_fails: &[],
-    input_fails: &[],
-    out_fails: &[],
-    notes_fail: &[],
-};
-
-// What a run over memory leaves.
-#[derive(Drop)]
-struct Ran {
-    status: Status,
-    out: MemSink,
-    notes: MemSink,
-}
-
-fn list(alloc: Global, words: &[&str]) -> Result<Vec<String>, AllocError> {
-    let mut list = Vec::new(alloc);
-    for word in words {
-        list.push(String::from_str(alloc, word)?)?;
-    }
-    Ok(list)
-}
-
-fn run_over(
-    alloc: Global,
-    words: &[&str],
-    rules: &[u8],
-    input: &[u8],
-    setting: Setting<'_>,
-) -> Result<Ran, AllocError> {
-    let words = list(alloc, words)?;
-    let file = (String::from_str(alloc, "r")?, rules.to_vec(alloc)?);
-    let mut files = Vec::new(alloc);
-    files.push(file)?;
-    let mut shelf = MemShelf::new(files, setting.shelf_fails.to_vec(alloc)?);
-    let mut source = MemSource::new(
-        input.to_vec(alloc)?,
-        setting.pieces.to_vec(alloc)?,
-        setting.input_fails.to_vec(alloc)?,
-    );
-    let mut out = MemSink::new(alloc, 4096, setting.out_fails.to_vec(alloc)?)?;
-    let mut notes = MemSink::new(alloc, 4096, setting.notes_fail.to_vec(alloc)?)?;
-    let status = run(alloc, &words, &mut shelf, &mut source, &mut out, &mut notes);
-    Ok(Ran { status, out, notes })
-}
-
-// A run that is done writes this, and no note.
-fn writes(
-    rt: &(impl AllocGlobal + Abort),
-    words: &[&str],
-    rules: &[u8],
-    input: &[u8],
-    wanted: &[u8],
-) -> Result<(), Fail> {
-    let ran = run_over(rt.alloc(), words, rules, input, CALM)?;
-    assert_eq!(rt; ran.status, Status::Done);
-    assert_eq!(rt; ran.out.bytes(), wanted);
-    assert_eq!(rt; ran.notes.bytes(), b"".as_slice());
-    Ok(())
-}
 
 #[test]
 fn documented_outputs(rt: HostRuntime) -> Result<(), Fail> {
@@ -599,36 +523,6 @@ fn refusals_write_nothing_but_their_note(rt: HostRuntime) -> Result<(), Fail> {
     Ok(())
 }
 
-// Options in any place and with `=`, and the canonical text of a rule file.
-#[test]
-fn words_say_what_is_done(rt: HostRuntime) -> Result<(), Fail> {
-    let rows: [(&[&str], &[u8], &[u8], &[u8]); 4] = [
-        (
-            &["--late=10", "run", "r"],
-            AB,
-            b"+ 5 b(7)\n+ 3 a(7)\n",
-            b"ok 1\n+ 3 5 ab(7)\nok 2\nend 2\n",
-        ),
-        (
-            &["run", "--late", "0010", "--", "r"],
-            AB,
-            b"+ 9 b(7)\n",
-            b"ok 1\nend 1\n",
-        ),
-        (
-            &["check", "r"],
-            b"ab( X )<-a(X) SEQ b(X).",
-            b"+ 1 a(7)\n",
-            b"ab(X) <- a(X) SEQ b(X).\n",
-        ),
-        (&["check", "r"], b"", b"", b""),
-    ];
-    for row in rows {
-        writes(&rt, row.0, row.1, row.2, row.3)?;
-    }
-    Ok(())
-}
-
 #[test]
 fn failing_notes_change_no_status(rt: HostRuntime) -> Result<(), Fail> {
     let setting = Setting {
@@ -639,18 +533,4 @@ fn failing_notes_change_no_status(rt: HostRuntime) -> Result<(), Fail> {
     assert_eq!(rt; ran.status, Status::Usage);
     assert_eq!(rt; ran.notes.bytes(), b"".as_slice());
     Ok(())
-}
-
-#[test]
-fn words_give_a_job(rt: HostRuntime) -> Result<(), Fail> {
-    let words = list(rt.alloc(), &["run", "x"])?;
-    match run_words(rt.alloc(), &words) {
-        Ok(job) => {
-            assert_eq!(rt; job.mode, Mode::Run);
-            assert_eq!(rt; job.rules.as_str(), "x");
-            assert_eq!(rt; job.late, None);
-            Ok(())
-        }
-        Err(_) => Err(Fail::new("no job")),
-    }
 }

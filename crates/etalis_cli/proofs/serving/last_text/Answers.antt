@@ -4,6 +4,12 @@ use Rattle.etalis_cli.specs.Output.{after_line}
 use Rattle.etalis_cli.proofs.ServeLaws.{tail_some}
 use Rattle.etalis_cli.proofs.serving.last_text.Goals as goal
 
+pub close-requires : goal.close-requires
+close-requires c =
+    let (t, part, b, few) = c.requires in
+    let (some, is) = c.in-Some.ensures.line part b.holds b.plain in
+    (after_line t (without_cr part), c.in_ok-answer-in-Some.ensures.after t part b.stands is)
+
 pub returns-in_ok-answer-in-Some : goal.returns-in_ok-answer-in-Some
 returns-in_ok-answer-in-Some c = λ t part b.
     let (some, is) = c.in-Some.ensures.line part b.holds b.plain in

@@ -3,7 +3,7 @@ use Rattle.std.specs.List.{flat_map}
 use Rattle.event_changes.specs.Told.{changes_left, plain_changed}
 use Rattle.etalis_core.specs.StandsFor.{last_change}
 use Rattle.etalis_cli.proofs.ReplyLaws.{line_of, lines_both}
-use Rattle.etalis_cli.proofs.replying.push_changes.Goals as goal
+use Rattle.etalis_cli.proofs.telling.push_changes.Goals as goal
 
 pub loop-changed-init : goal.loop-changed-init
 loop-changed-init c = ap (λ l. c.args.out.now.items ++ l)

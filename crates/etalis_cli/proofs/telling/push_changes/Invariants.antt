@@ -4,7 +4,7 @@ use Rattle.pattern_meaning.specs.Replies.{both_texts}
 use Rattle.event_changes.specs.Told.{changes_left}
 use Rattle.etalis_core.specs.StandsFor.{last_change}
 use Rattle.etalis_cli.proofs.ReplyLaws.{line_of}
-use Rattle.etalis_cli.proofs.replying.push_changes.Given as goal
+use Rattle.etalis_cli.proofs.telling.push_changes.Given as goal
 
 -- what was written and what is left are all
 abbrev pub invariant-loop-changed : goal.invariant-loop-changed

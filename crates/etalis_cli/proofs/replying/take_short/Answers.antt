@@ -1,32 +1,30 @@
-use Rattle.std.proofs.Common.{◌++◌, sym, ap, ◌∙◌, subst}
+use Rattle.std.proofs.Common.{sym, ap, ◌∙◌, subst}
 use Rattle.std.proofs.lemmas.Result.{on_ok_weaker}
 use Rattle.event_model.specs.Presence.{Says, Fails, verdict}
 use Rattle.event_model.specs.declared.inputs.Refusal.TheVariants.{Syntax}
 use Rattle.event_reader.specs.Machine.{heard}
 use Rattle.event_reader.proofs.LineLaws.{heard_short}
-use Rattle.etalis_core.specs.StandsFor.{StandsFor, rules_of, late_of}
+use Rattle.etalis_core.specs.StandsFor.{StandsFor, rules_of, late_of, last_change}
 use Rattle.etalis_cli.specs.Replying.{refusal_of}
-use Rattle.etalis_cli.proofs.ReplyLaws.{fails, says_refused, says_accepted, refused_text, refused_history, accepted_text, accepted_history, not_refused, may_begin, any_ok}
-use Rattle.etalis_cli.proofs.replying.answer_line.Goals as goal
+use Rattle.etalis_cli.proofs.ReplyLaws.{fails, says_refused, says_accepted, refused_reply, refused_history, accepted_history, accepted_answer, not_refused, may_begin}
+use Rattle.etalis_cli.proofs.replying.take_short.Goals as goal
 
 pub returns-in-Err-Syntax-clause-stands : goal.returns-in-Err-Syntax-clause-stands
 returns-in-Err-Syntax-clause-stands c = λ h p.
     let line = c.args.line.now in
     let late = late_of c.args.engine.now in
     let says = heard_short line (Fails c.in-Err-Syntax.at) (rw c.in-Err-Syntax.field-0-is at c.in-Err-Syntax.ensures) in
-    any_ok c.refusal_text.result (subst (StandsFor c.args.engine.now) (refused_history h (verdict late h (heard line)) (Syntax c.in-Err-Syntax.at) (fails late h line c.in-Err-Syntax.at says)) p)
+    subst (StandsFor c.args.engine.now) (refused_history h (verdict late h (heard line)) (Syntax c.in-Err-Syntax.at) (fails late h line c.in-Err-Syntax.at says)) p
 
-pub returns-in-Err-Syntax-clause-text : goal.returns-in-Err-Syntax-clause-text
-returns-in-Err-Syntax-clause-text c = λ h p.
+pub returns-in-Err-Syntax-clause-reply : goal.returns-in-Err-Syntax-clause-reply
+returns-in-Err-Syntax-clause-reply c = λ h p n.
     let line = c.args.line.now in
     let late = late_of c.args.engine.now in
     let says = heard_short line (Fails c.in-Err-Syntax.at) (rw c.in-Err-Syntax.field-0-is at c.in-Err-Syntax.ensures) in
-    on_ok_weaker c.refusal_text.result
-    (λ e. e ∙ ap (λ t. c.args.out.now.items ++ t) (refused_text (rules_of c.args.engine.now) h c.args.number (verdict late h (heard line)) (Syntax c.in-Err-Syntax.at) (fails late h line c.in-Err-Syntax.at says)))
-    c.refusal_text.ensures.ok
+    refused_reply (rules_of c.args.engine.now) h n (verdict late h (heard line)) (Syntax c.in-Err-Syntax.at) (fails late h line c.in-Err-Syntax.at says)
 
-pub answer_input-requires : goal.answer_input-requires
-answer_input-requires c =
+pub take_input-requires : goal.take_input-requires
+take_input-requires c =
     let (h, p, few) = c.requires.stands in
     (h, may_begin c.args.engine.now h c.in-Ok.input p (not_refused _ (sym (ap refusal_of (c.judge.ensures h p)) ∙ sym c.refusal_of.ensures ∙ c.in-None.is)) few)
 
@@ -35,16 +33,14 @@ returns-in-Some-clause-stands c = λ h p.
     let line = c.args.line.now in
     let late = late_of c.args.engine.now in
     let refuses = says_refused late h line c.in-Ok.input c.in-Some.refusal (heard_short line (Says c.in-Ok.input) c.in-Ok.ensures) (sym (ap refusal_of (c.judge.ensures h p)) ∙ sym c.refusal_of.ensures ∙ c.in-Some.is) in
-    any_ok c.refusal_text-in-Some.result (subst (StandsFor c.args.engine.now) (refused_history h (verdict late h (heard line)) c.in-Some.refusal refuses) p)
+    subst (StandsFor c.args.engine.now) (refused_history h (verdict late h (heard line)) c.in-Some.refusal refuses) p
 
-pub returns-in-Some-clause-text : goal.returns-in-Some-clause-text
-returns-in-Some-clause-text c = λ h p.
+pub returns-in-Some-clause-reply : goal.returns-in-Some-clause-reply
+returns-in-Some-clause-reply c = λ h p n.
     let line = c.args.line.now in
     let late = late_of c.args.engine.now in
     let refuses = says_refused late h line c.in-Ok.input c.in-Some.refusal (heard_short line (Says c.in-Ok.input) c.in-Ok.ensures) (sym (ap refusal_of (c.judge.ensures h p)) ∙ sym c.refusal_of.ensures ∙ c.in-Some.is) in
-    on_ok_weaker c.refusal_text-in-Some.result
-    (λ e. e ∙ ap (λ t. c.args.out.now.items ++ t) (refused_text (rules_of c.args.engine.now) h c.args.number (verdict late h (heard line)) c.in-Some.refusal refuses))
-    c.refusal_text-in-Some.ensures.ok
+    refused_reply (rules_of c.args.engine.now) h n (verdict late h (heard line)) c.in-Some.refusal refuses
 
 pub returns-in-None-clause-stands : goal.returns-in-None-clause-stands
 returns-in-None-clause-stands c = λ h p.
@@ -52,14 +48,12 @@ returns-in-None-clause-stands c = λ h p.
     let late = late_of c.args.engine.now in
     let fine = not_refused _ (sym (ap refusal_of (c.judge.ensures h p)) ∙ sym c.refusal_of.ensures ∙ c.in-None.is) in
     let takes = says_accepted late h line c.in-Ok.input (heard_short line (Says c.in-Ok.input) c.in-Ok.ensures) fine in
-    on_ok_weaker c.answer_input.result (λ s. subst (StandsFor c.answer_input.new.engine) (accepted_history h (verdict late h (heard line)) c.in-Ok.input takes) s) (c.answer_input.ensures.stands h p)
+    on_ok_weaker c.take_input.result (λ s. subst (StandsFor c.take_input.new.engine) (accepted_history h (verdict late h (heard line)) c.in-Ok.input takes) s) (c.take_input.ensures.stands h p)
 
-pub returns-in-None-clause-text : goal.returns-in-None-clause-text
-returns-in-None-clause-text c = λ h p.
+pub returns-in-None-clause-reply : goal.returns-in-None-clause-reply
+returns-in-None-clause-reply c = λ h p.
     let line = c.args.line.now in
     let late = late_of c.args.engine.now in
     let fine = not_refused _ (sym (ap refusal_of (c.judge.ensures h p)) ∙ sym c.refusal_of.ensures ∙ c.in-None.is) in
     let takes = says_accepted late h line c.in-Ok.input (heard_short line (Says c.in-Ok.input) c.in-Ok.ensures) fine in
-    on_ok_weaker c.answer_input.result
-    (λ e. e ∙ ap (λ t. c.args.out.now.items ++ t) (accepted_text (rules_of c.args.engine.now) h c.args.number (verdict late h (heard line)) c.in-Ok.input takes))
-    (c.answer_input.ensures.text h p)
+    accepted_answer (rules_of c.args.engine.now) h (verdict late h (heard line)) c.in-Ok.input takes (last_change c.take_input.new.engine) c.take_input.result (c.take_input.ensures.reply h p)

@@ -1,5 +1,4 @@
-use Rattle.std.proofs.Common.{◌++◌, ◌≤◌, length, sym, ap, ◌∙◌, subst}
-use Rattle.std.proofs.lemmas.Result.{on_ok_weaker}
+use Rattle.std.proofs.Common.{◌≤◌, length, sym, subst}
 use Rattle.event_model.specs.Lines.{without_cr}
 use Rattle.event_model.specs.Presence.{verdict}
 use Rattle.event_model.specs.declared.inputs.Refusal.TheVariants.{Syntax}
@@ -7,12 +6,12 @@ use Rattle.event_model.specs.declared.inputs.TheConstants.{MOST_LINE_BYTES}
 use Rattle.line_reader.specs.Cutting.{IsLine}
 use Rattle.event_reader.specs.Machine.{heard}
 use Rattle.etalis_core.specs.StandsFor.{StandsFor, rules_of, late_of}
-use Rattle.etalis_cli.proofs.ReplyLaws.{fails, refused_text, refused_history, any_ok}
+use Rattle.etalis_cli.proofs.ReplyLaws.{fails, refused_reply, refused_history}
 use Rattle.etalis_cli.proofs.SessionLaws.{heard_long}
-use Rattle.etalis_cli.proofs.replying.reply_line.Goals as goal
+use Rattle.etalis_cli.proofs.replying.take_line.Goals as goal
 
-pub answer_line-requires-clause-short : goal.answer_line-requires-clause-short
-answer_line-requires-clause-short c =
+pub take_short-requires-clause-short : goal.take_short-requires-clause-short
+take_short-requires-clause-short c =
     let (raw, is) = c.requires.line in
     let line = subst (λ line. IsLine line raw) c.in-Bytes.is is in
     subst (λ l. length l ≤ MOST_LINE_BYTES) (sym line.0) line.1
@@ -22,13 +21,11 @@ returns-in-Long-clause-stands c = λ h raw p is.
     let line = without_cr raw in
     let late = late_of c.args.engine.now in
     let says = heard_long line (subst (λ line. IsLine line raw) c.in-Long.is is) in
-    any_ok c.refusal_text.result (subst (StandsFor c.args.engine.now) (refused_history h (verdict late h (heard line)) (Syntax MOST_LINE_BYTES) (fails late h line MOST_LINE_BYTES says)) p)
+    subst (StandsFor c.args.engine.now) (refused_history h (verdict late h (heard line)) (Syntax MOST_LINE_BYTES) (fails late h line MOST_LINE_BYTES says)) p
 
-pub returns-in-Long-clause-text : goal.returns-in-Long-clause-text
-returns-in-Long-clause-text c = λ h raw p is.
+pub returns-in-Long-clause-reply : goal.returns-in-Long-clause-reply
+returns-in-Long-clause-reply c = λ h raw p is n.
     let line = without_cr raw in
     let late = late_of c.args.engine.now in
     let says = heard_long line (subst (λ line. IsLine line raw) c.in-Long.is is) in
-    on_ok_weaker c.refusal_text.result
-    (λ e. e ∙ ap (λ t. c.args.out.now.items ++ t) (refused_text (rules_of c.args.engine.now) h c.args.number (verdict late h (heard line)) (Syntax MOST_LINE_BYTES) (fails late h line MOST_LINE_BYTES says)))
-    c.refusal_text.ensures.ok
+    refused_reply (rules_of c.args.engine.now) h n (verdict late h (heard line)) (Syntax MOST_LINE_BYTES) (fails late h line MOST_LINE_BYTES says)

@@ -1,0 +1,103 @@
+// What lines have come to, as text and as numbers.
+ghost use Rattle.std.specs.Prelude.{◌≡◌, ◌++◌, ◌+◌, ◌<◌, ◌≤◌, ◌^◌, ℕ, false, OnOk};
+ghost use Rattle.event_model.specs.Bytes.{plus};
+ghost use Rattle.pattern_meaning.specs.Replies.{both_texts, change_texts, reply_text};
+ghost use Rattle.etalis_core.specs.StandsFor.{is_working, is_spent, last_change};
+ghost use Rattle.etalis_cli.specs.Output.{voiced, counted};
+ghost use Rattle.etalis_cli.specs.Replying.{reply_by};
+
+use crate::replying::Answer;
+use crate::voices::{Tally, Voice};
+use detect_writer::{change_text, ok_text, refusal_text};
+use etalis_core::Engine;
+use event_changes::Sign;
+use event_model::Detection;
+use std::alloc::AllocError;
+
+// The lines of what changed last.
+fn push_changes(engine: &Engine, out: &mut Vec<u8>) -> Result<(), AllocError>
+    requires resting { is_working engine.now ≡ false }
+    requires unspent { is_spent engine.now ≡ false }
+    ensures { OnOk result (out.new.items ≡ out.old.items ++ both_texts (last_change engine.now)) }
+{
+    for changed in engine.changes() {
+        change_text(changed.sign, changed.detection, out)?;
+    }
+    Ok(())
+}
+
+// Appends the whole reply.
+fn push_reply(
+    engine: &Engine,
+    number: u64,
+    answer: Answer,
+    out: &mut Vec<u8>,
+) -> Result<(), AllocError>
+    requires resting { is_working engine.now ≡ false }
+    requires unspent { is_spent engine.now ≡ false }
+    ensures { OnOk result (out.new.items ≡ out.old.items ++ reply_text (reply_by number answer (last_change engine.now))) }
+{
+    match answer {
+        Answer::Silent => Ok(()),
+        Answer::Refused(refusal) => refusal_text(number, refusal, out),
+        Answer::Changed => {
+            push_changes(engine, out)?;
+            ok_text(number, out)
+        }
+    }
+}
+
+/// Appends what is told at once of line N, by the voice.
+pub fn push_answer(
+    engine: &Engine,
+    voice: Voice,
+    number: u64,
+    answer: Answer,
+    out: &mut Vec<u8>,
+) -> Result<(), AllocError>
+    requires resting { is_working engine.now ≡ false }
+    requires unspent { is_spent engine.now ≡ false }
+    ensures { OnOk result (out.new.items ≡ out.old.items
+        ++ voiced voice (reply_by number answer (last_change engine.now))) }
+{
+    match voice {
+        Voice::Replies => push_reply(engine, number, answer, out),
+        Voice::Refusals => match answer {
+            Answer::Refused(refusal) => refusal_text(number, refusal, out),
+            Answer::Silent | Answer::Changed => Ok(()),
+        },
+        Voice::Counts => Ok(()),
+    }
+}
+
+/// The tally with what a line has come to, where the voice counts that.
+pub fn count_answer(engine: &Engine, voice: Voice, answer: Answer, tally: Tally) -> Tally
+    requires resting { is_working engine.now ≡ false }
+    requires unspent { is_spent engine.now ≡ false }
+    requires few_told { tally.told < 2 ^ 127 }
+    requires few_withdrawn { tally.withdrawn < 2 ^ 127 }
+    ensures counts { (n : ℕ) → result ≡ counted voice tally (reply_by n answer (last_change engine.now)) }
+    ensures more_told { result.told ≤ tally.told + 2 ^ 64 }
+    ensures more_withdrawn { result.withdrawn ≤ tally.withdrawn + 2 ^ 64 }
+{
+    match voice {
+        Voice::Replies | Voice::Refusals => tally,
+        Voice::Counts => match answer {
+            Answer::Silent | Answer::Refused(_) => tally,
+            Answer::Changed => Tally {
+                told: tally.told + engine.come().len() as u128,
+                withdrawn: tally.withdrawn + engine.gone().len() as u128,
+            },
+        },
+    }
+}
+
+/// Appends the lines of what stands.
+pub fn push_standing(detections: &[Detection], out: &mut Vec<u8>) -> Result<(), AllocError>
+    ensures { OnOk result (out.new.items ≡ out.old.items ++ change_texts plus detections.now) }
+{
+    for detection in detections {
+        change_text(Sign::Plus, detection, out)?;
+    }
+    Ok(())
+}

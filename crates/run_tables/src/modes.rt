@@ -1,0 +1,251 @@
+// Words and modes: what each writes, what it reads, and the limit of steps.
+use crate::fixtures::{AB, CALM, Setting, list, run_over, writes};
+use detect_writer::drill_text;
+use drill_lines::drill_lines;
+use etalis_cli::{Mode, Status, run_words};
+use ev_term::{Detection, Event};
+use event_reader::{Input, Line, LineReader, parse_line};
+use pattern_meaning::scratch;
+use rule_check::{Checked, check};
+use rule_parser::parse;
+use std::alloc::{AllocError, Global};
+use std::test::Fail;
+
+const AB_ANY: &[u8] = b"ab <- a(_) SEQ b(_).";
+
+const WITHIN: &str = "w(X) <- (a(X) SEQ b(X)) WITHIN 6.";
+
+#[test]
+fn words_give_a_job(rt: HostRuntime) -> Result<(), Fail> {
+    let words = list(rt.alloc(), &["run", "x"])?;
+    match run_words(rt.alloc(), &words) {
+        Ok(job) => {
+            assert_eq!(rt; job.mode, Mode::Run);
+            assert_eq!(rt; job.rules.as_str(), "x");
+            assert_eq!(rt; job.late, None);
+            Ok(())
+        }
+        Err(_) => Err(Fail::new("no job")),
+    }
+}
+
+// Options in any place and with `=`, and what each mode writes.
+#[test]
+fn words_say_what_is_done(rt: HostRuntime) -> Result<(), Fail> {
+    let rows: [(&[&str], &[u8], &[u8], &[u8]); 12] = [
+        (
+            &["--late=10", "run", "r"],
+            AB,
+            b"+ 5 b(7)\n+ 3 a(7)\n",
+            b"ok 1\n+ 3 5 ab(7)\nok 2\nend 2\n",
+        ),
+        (
+            &["run", "--late", "0010", "--", "r"],
+            AB,
+            b"+ 9 b(7)\n",
+            b"ok 1\nend 1\n",
+        ),
+        (
+            &["check", "r"],
+            b"ab( X )<-a(X) SEQ b(X).",
+            b"+ 1 a(7)\n",
+            b"ab(X) <- a(X) SEQ b(X).\n",
+        ),
+        (&["check", "r"], b"", b"", b""),
+        (
+            &["scratch", "r"],
+            AB,
+            b"+ 1 a(7)\n+ 2 b(7)\n+ 1 a(7",
+            b"no 3 syntax 7\n+ 1 2 ab(7)\nend 3\n",
+        ),
+        (
+            &["scratch", "r", "--late", "2"],
+            AB,
+            b"+ 3 a(7)\n+ 4 b(7)\n+ 9 a(2)\n+ 6 b(7)\n- 9 b(1)\n+ 9 b(7)\n+ 12 b(2)\n# note\n",
+            b"no 4 below 7\nno 5 absent\n+ 9 12 ab(2)\n+ 3 4 ab(7)\n+ 3 9 ab(7)\nend 8\n",
+        ),
+        (
+            &["scratch", "r"],
+            AB,
+            b"+ 1 a(7)\n+ 2 b(7)\nbegin\n- 2 b(7)\n+ 3 b(7)\ncommit\nbegin\n+ 4 b(7)\nbegin\n",
+            b"no 9 batch\n+ 1 3 ab(7)\nend 9 open\n",
+        ),
+        (&["--", "scratch", "r"], AB, b"", b"end 0\n"),
+        (
+            &["drill", "r", "--seed", "1", "--lines", "4"],
+            AB_ANY,
+            b"+ 1 a(7)\n",
+            b"drill 1 0 0 0\n",
+        ),
+        (
+            &["--lines=4", "drill", "--late", "10", "r"],
+            AB_ANY,
+            b"",
+            b"drill 1 0 0 0\n",
+        ),
+        (
+            &["drill", "r", "--lines=0"],
+            AB_ANY,
+            b"",
+            b"drill 0 0 0 0\n",
+        ),
+        (&["drill", "r"], b"", b"", b"drill 0 0 0 0\n"),
+    ];
+    for row in rows {
+        writes(&rt, row.0, row.1, row.2, row.3)?;
+    }
+    Ok(())
+}
+
+// A source that fails is noticed where it is read alone.
+#[test]
+fn some_modes_leave_the_source_alone(rt: HostRuntime) -> Result<(), Fail> {
+    let rows: [(&[&str], Status, &[u8]); 4] = [
+        (&["run", "r"], Status::ReadFault, b""),
+        (&["scratch", "r"], Status::ReadFault, b""),
+        (&["check", "r"], Status::Done, b"ab <- a(_) SEQ b(_).\n"),
+        (
+            &["drill", "r", "--lines", "4"],
+            Status::Done,
+            b"drill 1 0 0 0\n",
+        ),
+    ];
+    for row in rows {
+        let setting = Setting {
+            input_fails: &[1],
+            ..CALM
+        };
+        let ran = run_over(rt.alloc(), row.0, AB_ANY, b"+ 1 a(7)\n", setting)?;
+        assert_eq!(rt; ran.status, row.1);
+        assert_eq!(rt; ran.out.bytes(), row.2);
+    }
+    Ok(())
+}
+
+// An output that fails before anything went out, and behind the first refusal.
+#[test]
+fn every_mode_tells_a_failed_output(rt: HostRuntime) -> Result<(), Fail> {
+    let rows: [(&[&str], &[u64], &[u8]); 4] = [
+        (&["scratch", "r"], &[1], b""),
+        (&["scratch", "r"], &[2], b"no 1 syntax 0\n"),
+        (&["check", "r"], &[1], b""),
+        (&["drill", "r", "--lines", "4"], &[1], b""),
+    ];
+    for row in rows {
+        let setting = Setting {
+            pieces: &[2],
+            out_fails: row.1,
+            ..CALM
+        };
+        let ran = run_over(rt.alloc(), row.0, AB, b"?\n+ 1 a(7)\n", setting)?;
+        assert_eq!(rt; ran.status, Status::WriteFault);
+        assert_eq!(rt; ran.out.bytes(), row.2);
+        assert_eq!(rt; ran.notes.bytes(), b"etalis: cannot write\n".as_slice());
+    }
+    Ok(())
+}
+
+// Appends a rule of so many atoms.
+fn push_rule(text: &mut Vec<u8>, atoms: usize) -> Result<(), AllocError> {
+    text.extend_from_slice(b"a<-b")?;
+    for _atom in 1..atoms {
+        text.extend_from_slice(b" AND b")?;
+    }
+    text.extend_from_slice(b".")?;
+    Ok(())
+}
+
+// A file of 256 rules, of 128 atoms each but for the last, which has so many.
+#[test]
+fn a_plan_has_at_most_so_many_steps(rt: HostRuntime) -> Result<(), Fail> {
+    let none: &[u8] = b"";
+    let rows: [(&str, usize, Status, &[u8]); 3] = [
+        ("run", 128, Status::RulesRefused, none),
+        ("check", 128, Status::RulesRefused, none),
+        ("run", 127, Status::Done, b"end 0\n"),
+    ];
+    for row in rows {
+        let mut text = Vec::new(rt.alloc());
+        for _rule in 0..255 {
+            push_rule(&mut text, 128)?;
+        }
+        push_rule(&mut text, row.1)?;
+        let ran = run_over(rt.alloc(), &[row.0, "r"], &text, none, CALM)?;
+        assert_eq!(rt; ran.status, row.2);
+        assert_eq!(rt; ran.out.bytes(), row.3);
+        let note: &[u8] = match row.2 {
+            Status::Done => b"",
+            _ => b"etalis: rules: over 65536 steps\n",
+        };
+        assert_eq!(rt; ran.notes.bytes(), note);
+    }
+    Ok(())
+}
+
+// How many of these don't stand among the others.
+fn missing(these: &[Detection], others: &[Detection]) -> u128 {
+    these.iter().filter(|one| !others.contains(one)).count() as u128
+}
+
+// The events with one that is added, or without one copy of one that is taken back.
+fn follow(events: &mut Vec<Event>, input: Input) -> Result<(), Fail> {
+    match input {
+        Input::Add(event) => events.push(event)?,
+        Input::Take(event) => {
+            if let Some(place) = events.iter().position(|other| *other == event) {
+                events.swap_remove(place);
+            }
+        }
+        Input::Advance(_) | Input::Nothing | Input::Begin | Input::Commit => {}
+    }
+    Ok(())
+}
+
+fn next_input(alloc: Global, reader: &mut LineReader) -> Result<Input, Fail> {
+    match reader.next_line() {
+        Some(Line::Bytes(bytes)) => match parse_line(alloc, bytes) {
+            Ok(input) => Ok(input),
+            Err(_) => Err(Fail::new("a line says nothing")),
+        },
+        Some(Line::Long) | None => Err(Fail::new("no line")),
+    }
+}
+
+// What a drill writes over so many lines, all of which are accepted: what stands is found from scratch before and after each.
+fn drilled(alloc: Global, rules: &Checked, lines: &[u8], count: usize) -> Result<Vec<u8>, Fail> {
+    let mut reader = LineReader::new(alloc);
+    reader.feed(lines)?;
+    let mut events = Vec::new(alloc);
+    let mut before = Vec::new(alloc);
+    let mut told: u128 = 0;
+    let mut withdrawn: u128 = 0;
+    for _line in 0..count {
+        follow(&mut events, next_input(alloc, &mut reader)?)?;
+        let after = scratch(alloc, rules, &events)?;
+        told = told.saturating_add(missing(&after, &before));
+        withdrawn = withdrawn.saturating_add(missing(&before, &after));
+        before = after;
+    }
+    let mut text = Vec::new(alloc);
+    drill_text(told, withdrawn, 0, 0, &mut text)?;
+    Ok(text)
+}
+
+#[test]
+fn a_drill_counts_what_comes_and_goes(rt: HostRuntime) -> Result<(), Fail> {
+    let Ok(rules) = parse(rt.alloc(), WITHIN) else {
+        return Err(Fail::new("no rules"));
+    };
+    let lines = drill_lines(rt.alloc(), &rules, 7, 300)?;
+    let Ok(rules) = check(rt.alloc(), rules) else {
+        return Err(Fail::new("no sound rules"));
+    };
+    let wanted = drilled(rt.alloc(), &rules, &lines, 300)?;
+    let words = [
+        "drill", "r", "--late", "10", "--lines", "300", "--seed", "7",
+    ];
+    for _time in 0..2 {
+        writes(&rt, &words, WITHIN.as_bytes(), b"", &wanted)?;
+    }
+    Ok(())
+}
