@@ -203,10 +203,15 @@ fn follow(events: &mut Vec<Event>, input: Input) -> Result<(), Fail> {
 
 fn next_input(alloc: Global, reader: &mut LineReader) -> Result<Input, Fail> {
     match reader.next_line() {
-        Some(Line::Bytes(bytes)) => match parse_line(alloc, bytes) {
-            Ok(input) => Ok(input),
-            Err(_) => Err(Fail::new("a line says nothing")),
-        },
+        Some(Line::Bytes(bytes)) => {
+            if bytes.len() > 65_536 {
+                return Err(Fail::new("a line is too long"));
+            }
+            match parse_line(alloc, bytes) {
+                Ok(input) => Ok(input),
+                Err(_) => Err(Fail::new("a line says nothing")),
+            }
+        }
         Some(Line::Long) | None => Err(Fail::new("no line")),
     }
 }
