@@ -27,25 +27,26 @@ fn a_file_gives_what_it_took(rt: HostRuntime) -> Result<(), Fail> {
 // A place that isn't the next one, of the file that is open and of another.
 #[test]
 fn files_are_read_from_any_place(rt: HostRuntime) -> Result<(), Fail> {
-    let names = ["flow_ports_first", "flow_ports_second"];
-    write_whole(&mut ToWriter::new(fs::create(&rt, names[0])?), b"abcde")?;
-    write_whole(&mut ToWriter::new(fs::create(&rt, names[1])?), b"vwxyz")?;
+    let first = "flow_ports_first";
+    let second = "flow_ports_second";
+    write_whole(&mut ToWriter::new(fs::create(&rt, first)?), b"abcde")?;
+    write_whole(&mut ToWriter::new(fs::create(&rt, second)?), b"vwxyz")?;
     let mut shelf = FileShelf::new(rt.alloc(), &rt);
     let mut buf = [0; 2];
     let rows = [
-        (0, 0, b"ab", 2),
-        (0, 2, b"cd", 2),
-        (1, 3, b"yz", 2),
-        (1, 1, b"wx", 2),
-        (0, 3, b"de", 2),
-        (0, 5, b"de", 0),
+        (first, 0, b"ab", 2),
+        (first, 2, b"cd", 2),
+        (second, 3, b"yz", 2),
+        (second, 1, b"wx", 2),
+        (first, 3, b"de", 2),
+        (first, 5, b"de", 0),
     ];
     for row in rows {
-        assert_eq!(rt; shelf.read_at(names[row.0], row.1, &mut buf), Ok(row.3));
+        assert_eq!(rt; shelf.read_at(row.0, row.1, &mut buf), Ok(row.3));
         assert_eq!(rt; buf, *row.2);
     }
-    fs::remove_file(&rt, names[0])?;
-    fs::remove_file(&rt, names[1])?;
+    fs::remove_file(&rt, first)?;
+    fs::remove_file(&rt, second)?;
     Ok(())
 }
 
