@@ -5,7 +5,7 @@ ghost use Rattle.std.specs.Ordering.{is_eq};
 ghost use Rattle.ordered_lists.specs.Canon.{has, place, Rising, Exact};
 ghost use Rattle.key_lists.specs.Lists.{list_in, InOrder};
 
-use crate::groups::remove_unique;
+use crate::groups::{Probe, remove_like, remove_unique};
 use ordered_lists::insert_unique;
 use std::alloc::{AllocError, Global};
 use std::collections::HashMap;
@@ -98,5 +98,33 @@ impl<T: Ord + Drop> KeyLists<T> {
         ensures rising { InOrder T.cmp self.new }
     {
         self.cut(key, item);
+    }
+
+    // The same without the order of the other lists.
+    fn cut_like<P: Probe<T>>(&mut self, key: u64, probe: &P)
+        requires exact { Exact T.cmp }
+        requires rising { InOrder T.cmp self.old }
+        ensures rest { list_in self.new key ≡ filter (λ x. not (is_eq (T.cmp (P.like probe.now) x))) (list_in self.old key) }
+        ensures others { (h : ℕ) → h ≢ key → list_in self.new h ≡ list_in self.old h }
+    {
+        let mut none_left = false;
+        if let Some(items) = self.lists.get_mut(&key) {
+            remove_like(items, probe);
+            none_left = items.is_empty();
+        }
+        if none_left {
+            self.lists.remove(&key);
+        }
+    }
+
+    /// Takes the element that a probe stands for out of the list under a number.
+    pub fn remove_like<P: Probe<T>>(&mut self, key: u64, probe: &P)
+        requires exact { Exact T.cmp }
+        requires rising { InOrder T.cmp self.old }
+        ensures rest { list_in self.new key ≡ filter (λ x. not (is_eq (T.cmp (P.like probe.now) x))) (list_in self.old key) }
+        ensures others { (h : ℕ) → h ≢ key → list_in self.new h ≡ list_in self.old h }
+        ensures rising { InOrder T.cmp self.new }
+    {
+        self.cut_like(key, probe);
     }
 }

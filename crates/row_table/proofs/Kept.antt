@@ -1,5 +1,7 @@
 -- A change of values alone keeps the table; a value names its row and step.
-use Rattle.std.proofs.Common.{ℕ, ◌≡◌, ◌==◌, ◌⊎◌, Some, sym, ◌∙◌}
+use Rattle.std.proofs.Common.{ℕ, ◌≡◌, ◌==◌, ◌⊎◌, Some, None, List, [], ◌∷◌, cond, refl, ap, sym, ◌∙◌}
+use Rattle.std.proofs.lemmas.Bool.{eq-eqb}
+use Rattle.row_table.specs.Pairs.{get}
 use Rattle.std.specs.HashMap.{HashMap}
 use Rattle.std.specs.HashMap as by_hash
 use Rattle.std.specs.BTreeMap.{BTreeMap}
@@ -24,3 +26,11 @@ module _ {K V S : Type 0} (code : K → ℕ) (cmp : K → K → Ordering) (first
 
       unique : (n m : ℕ) (k : K) → key_of t n ≡ Some k → key_of t m ≡ Some k → n ≡ m
       unique n m k e f = old.unique n m k (sym (same n) ∙ e) (sym (same m) ∙ f)
+
+none_some : {X : Type 0} (x : X) → None ≡ Some x → ⊥
+none_some x e = cc
+
+-- a list of steps that isn't empty has one
+pub some_step : {V : Type 0} (l : List (ℕ × V)) → (l ≡ [] → ⊥) → ((s : ℕ) → get l s ≡ None) → ⊥
+some_step [] n h = n refl
+some_step ((k, v) ∷ rest) n h = none_some v (sym (h k) ∙ ap (λ b. cond b (Some v) (get rest k)) (eq-eqb k k refl))

@@ -1,5 +1,5 @@
 // Rows under numbers, each with a value at some steps.
-ghost use Rattle.std.specs.Prelude.{◌≡◌, ◌≢◌, ℕ, Some, None, IfOk, OnOk, OnErr, IsSome, IsOk, MatchOption};
+ghost use Rattle.std.specs.Prelude.{◌≡◌, ◌≢◌, ℕ, true, false, Some, None, IfOk, OnOk, OnErr, IsSome, IsOk, MatchOption};
 ghost use Rattle.std.specs.Option.{option_copied};
 ghost use Rattle.slab.specs.Slab as slots;
 ghost use Rattle.ordered_lists.specs.Canon.{Exact};
@@ -141,15 +141,23 @@ impl<K: Hash + Ord + Clone, V: Copy + Drop> RowTable<K, V> {
         requires table { IsRowTable (hashed K.hash_input) K.cmp self.old }
         ensures values { (m s : ℕ) → step_value self.new m s ≡ step_value self.old m s }
         ensures rows { (m : ℕ) (k : K) → row_under self.new m ≡ Some k → row_under self.old m ≡ Some k }
+        ensures gone { ((s : ℕ) → step_value self.old number s ≡ None) → row_under self.new number ≡ None }
         ensures others { (m : ℕ) → m ≢ number → same_record self.old self.new m }
         ensures table { IsRowTable (hashed K.hash_input) K.cmp self.new }
     {
-        let none = match self.table.entries.get(number) {
+        if self.is_bare(number) {
+            let _ = self.table.take(number);
+        }
+    }
+
+    // Whether there is a record, and no step has its row.
+    fn is_bare(&self, number: usize) -> bool
+        ensures bare { result ≡ true → (s : ℕ) → step_value self.now number s ≡ None }
+        ensures other { result ≡ false → ((s : ℕ) → step_value self.now number s ≡ None) → row_under self.now number ≡ None }
+    {
+        match self.table.entries.get(number) {
             None => false,
             Some(entry) => entry.value.is_empty(),
-        };
-        if none {
-            let _ = self.table.take(number);
         }
     }
 }

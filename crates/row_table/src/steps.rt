@@ -1,5 +1,5 @@
 // The steps of a record, rising, each with a value.
-ghost use Rattle.std.specs.Prelude.{◌≡◌, ◌≢◌, ℕ, true, [], None, IsSome, IsOk, IfOk, IfErr, OnOk, OnErr};
+ghost use Rattle.std.specs.Prelude.{◌≡◌, ◌≢◌, ℕ, true, false, [], None, IsSome, IsOk, IfOk, IfErr, OnOk, OnErr};
 ghost use Rattle.row_table.specs.Pairs.{get, IsStrictlySorted, IsAt, IsGapFor, SetsOnly, Drops};
 
 use std::alloc::{AllocError, Global};
@@ -35,7 +35,8 @@ impl<V: Copy> StepList<V> {
     }
 
     pub fn is_empty(&self) -> bool
-        ensures { result ≡ true → self.now ≡ [] }
+        ensures empty { result ≡ true → self.now ≡ [] }
+        ensures full { result ≡ false → self.now ≢ [] }
     {
         self.pairs.is_empty()
     }

@@ -1,5 +1,5 @@
 // How often each step has each row.
-ghost use Rattle.std.specs.Prelude.{◌≡◌, ◌≢◌, ◌+◌, ◌-◌, ◌<◌, ◌≤◌, ◌^◌, ◌==◌, ℕ, Some, None, IfOk, OnOk, OnErr, IsSome, if◌then◌else◌};
+ghost use Rattle.std.specs.Prelude.{◌≡◌, ◌≢◌, ◌+◌, ◌-◌, ◌<◌, ◌≤◌, ◌^◌, ◌==◌, ℕ, Some, None, IfOk, OnOk, OnErr, IsSome, MatchOption, if◌then◌else◌};
 ghost use Rattle.std.specs.Option.{option_copied};
 ghost use Rattle.support_table.specs.Supports.{count_of, row_at, Counts, SameCounts};
 
@@ -45,6 +45,26 @@ impl Supports {
         ensures { option_copied result ≡ row_at self.now number }
     {
         self.rows.row(number)
+    }
+
+    /// The number of a row; the hint is tried first.
+    #[tactic(auto, using(ev_bind::specs::Rows::exact_rows))]
+    pub fn near(&self, hint: usize, row: &Row) -> Option<usize>
+        ensures { MatchOption result ((n : ℕ) → row_at self.now n ≢ Some row.now) (λ n. row_at self.now n ≡ Some row.now) }
+    {
+        if let Some(held) = self.rows.row(hint) {
+            if held.cmp(row).is_eq() {
+                return Some(hint);
+            }
+        }
+        self.rows.find(row)
+    }
+
+    /// How often a step has the row under a number.
+    pub fn count_at(&self, number: usize, step: StepId) -> u128
+        ensures { (row : Row) → row_at self.now number ≡ Some row → result ≡ count_of self.now step row }
+    {
+        self.rows.at(number, step).unwrap_or(0)
     }
 
     /// The number of a row, which stays until `release`.
@@ -108,6 +128,21 @@ impl Supports {
         }
     }
 
+    /// A step has the row under a number so often from now on. It keeps its number until `release`.
+    pub fn set_at(&mut self, number: usize, step: StepId, n: u128) -> Result<(), AllocError>
+        requires held { IsSome (row_at self.old number) }
+        ensures counts { (row : Row) → row_at self.old number ≡ Some row → OnOk result (Counts self.old self.new step row n) }
+        ensures rows { (m : ℕ) → row_at self.new m ≡ row_at self.old m }
+        ensures err { OnErr result (SameCounts self.old self.new) }
+    {
+        if n == 0 {
+            self.rows.remove(number, step);
+            return Ok(());
+        }
+        self.rows.put(number, step, n)?;
+        Ok(())
+    }
+
     /// The number is free where no step has its row.
     #[tactic(auto, using(crate::specs::Supports::fewer_records, ev_bind::specs::Rows::exact_rows))]
     pub fn release(&mut self, number: usize)
@@ -117,20 +152,37 @@ impl Supports {
         self.rows.tidy(number);
     }
 
+    // A row without a number comes `n` times to a step.
+    #[tactic(auto, using(ev_bind::specs::Rows::exact_rows))]
+    fn add_new(&mut self, step: StepId, row: Row, n: u128) -> Result<(), AllocError>
+        requires none { (m : ℕ) → row_at self.old m ≢ Some row }
+        ensures counts { OnOk result (Counts self.old self.new step row n) }
+        ensures err { OnErr result (SameCounts self.old self.new) }
+        ensures err_rows { (m : ℕ) → OnErr result (row_at self.new m ≡ row_at self.old m) }
+    {
+        let number = self.rows.number(row)?;
+        if let Err(fault) = self.rows.put(number, step, n) {
+            self.rows.tidy(number);
+            return Err(fault);
+        }
+        Ok(())
+    }
+
     /// A row comes `n` times more to a step.
+    #[tactic(auto, using(ev_bind::specs::Rows::exact_rows))]
     pub fn add(&mut self, step: StepId, row: &Row, n: u128) -> Result<Change, AllocError>
         requires some { 1 ≤ n }
         requires fits { count_of self.old step row.now + n < 2 ^ 128 }
         ensures counts { OnOk result (Counts self.old self.new step row.now (count_of self.old step row.now + n)) }
         ensures change { IfOk result (λ c. c ≡ (if count_of self.old step row.now == 0 then Change.Appeared else Change.Same)) }
         ensures err { OnErr result (SameCounts self.old self.new) }
+        ensures err_rows { (m : ℕ) → OnErr result (row_at self.new m ≡ row_at self.old m) }
     {
-        let number = self.number(row.share()?)?;
-        match self.add_at(number, step, n) {
-            Ok(change) => Ok(change),
-            Err(fault) => {
-                self.release(number);
-                Err(fault)
+        match self.rows.find(row) {
+            Some(number) => self.add_at(number, step, n),
+            None => {
+                self.add_new(step, row.share()?, n)?;
+                Ok(Change::Appeared)
             }
         }
     }
