@@ -34,7 +34,7 @@ fn main(rt: HostRuntime) -> ExitCode {
         Ok(words) => run(
             alloc,
             &words,
-            &mut FileShelf::new(rt),
+            &mut FileShelf::new(alloc, rt),
             &mut input,
             &mut out,
             &mut notes,
