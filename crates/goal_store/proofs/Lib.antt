@@ -1,0 +1,11 @@
+pub mod Indexing
+pub mod Stepping
+pub mod Marking
+pub mod Counting
+pub mod Holding
+pub mod Changing
+pub mod Storing
+pub mod Walking
+pub mod Standing
+pub mod Building
+pub mod Opening

@@ -1,0 +1,6 @@
+use Rattle.goal_store.specs.Indexed.{less}
+use Rattle.goal_store.proofs.Stepping.{Walked}
+use Rattle.goal_store.proofs.steps.StepPlaces.remove.Given as goal
+
+abbrev pub invariant-loop-i : goal.invariant-loop-i
+invariant-loop-i l = Walked (less l.row l.number) l.initial.self.indexes.items l.i l.self.indexes.items

@@ -1,0 +1,12 @@
+pub mod Marks
+pub mod Places
+pub mod Values
+pub mod Rising
+pub mod Indexed
+pub mod Steps
+pub mod Good
+pub mod Fits
+pub mod Built
+pub mod Goals
+pub mod Walked
+pub mod Walks

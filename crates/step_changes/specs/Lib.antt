@@ -1,0 +1,9 @@
+pub mod RowCases
+pub mod Deltas
+pub mod Notes
+pub mod Pushes
+pub mod Stretches
+pub mod Tasks
+pub mod Drops
+pub mod Marked
+pub mod Indexed
