@@ -19,7 +19,7 @@ use Rattle.change_meaning.specs.Caps.{PlainCaps}
 use Rattle.change_meaning.specs.Keys.{slots_at}
 use Rattle.change_meaning.specs.Courses.{Course, changed_at, given, heads_of, AreFew}
 use Rattle.change_meaning.proofs.Sums.{has_changed}
-use Rattle.revision.specs.Views.{View, settled}
+use Rattle.step_work.specs.Views.{View, settled}
 use Rattle.revision.specs.Works.{Between, Hand, Finishes}
 
 -- ---- there is one list of changed rows

@@ -20,7 +20,7 @@ use Rattle.change_meaning.specs.Shown.{signed_rows, shown_rows, shown_change}
 use Rattle.change_meaning.proofs.CourseLaws.{course_is}
 use Rattle.change_meaning.proofs.RowLaws.{rows_past}
 use Rattle.row_changes.specs.Visits.{At}
-use Rattle.revision.specs.Views.{View, seen_visits}
+use Rattle.step_work.specs.Views.{View, seen_visits}
 use Rattle.revision.specs.Works.{HasRows, Hand, OnCourse}
 use Rattle.revision.specs.Holding.{Holds, CanBegin, visits_to, WorksTo, told, told_change}
 use Rattle.revision.proofs.Stretches.{within_plan}

@@ -7,8 +7,10 @@ use Rattle.event_changes.specs.declared.events.EventChange.{EventChange}
 use Rattle.ev_bind.specs.declared.rows.Row.{Row}
 use Rattle.rule_ast.specs.PlainPlans.{PlainStep, Named, Leaf, Join, Either, Where, Exact, Within, Minus, Head}
 use Rattle.row_changes.specs.Visits.{Visit, tally, At}
-use Rattle.revision.specs.Views.{View, seen_visits, seen_gives}
-use Rattle.revision.specs.Works.{UnderWay, MakesVisits, Notes, StepWork}
+use Rattle.step_work.specs.Views.{View, seen_visits, seen_gives}
+use Rattle.step_changes.specs.Tasks.{WorksOn}
+use Rattle.step_work.specs.Stepping.{Notes, StepWork}
+use Rattle.revision.specs.Works.{UnderWay}
 use Rattle.revision.proofs.Stretches.{goes_on, all_noted, none_noted, none_under, some_length, fewer_left}
 
 -- visits are left, and so many were made
@@ -24,14 +26,14 @@ pub record Ended (gives : List Visit) (p q : At) (units rest : ℕ) : Type 0 whe
   pub spent : length p.left + rest ≡ units
 
 module _ (p q : At) (units : ℕ) where
-  visits_stop : (all : List Visit) → UnderWay all p → MakesVisits p q units None → Stopped all p q units
+  visits_stop : (all : List Visit) → UnderWay all p → WorksOn p q units None → Stopped all p q units
   visits_stop all u w = record {
     under = goes_on all p q units 0 u w.0;
     fewer = fewer_left p q units 0 w.0 ∙ (let e : length p.left + 0 ≡ length p.left = omega arith in e);
     more = some_length q.left w.1;
   }
 
-  visits_end : (all : List Visit) (rest : ℕ) → UnderWay all p → MakesVisits p q units (Some rest) → Ended all p q units rest
+  visits_end : (all : List Visit) (rest : ℕ) → UnderWay all p → WorksOn p q units (Some rest) → Ended all p q units rest
   visits_end all rest u w =
       let m = goes_on all p q units rest u w.0 in record {
         noted = all_noted all q m.0 rest m.1 w.1;

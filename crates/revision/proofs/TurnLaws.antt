@@ -14,8 +14,9 @@ use Rattle.change_meaning.specs.Keys.{slots_at}
 use Rattle.change_meaning.specs.Courses.{Course, visits, given, IsCourse}
 use Rattle.change_meaning.proofs.RowLaws.{none_at}
 use Rattle.change_meaning.specs.Turns.{visits_from}
-use Rattle.revision.specs.Views.{seen_visits, seen_gives, settled}
-use Rattle.revision.specs.Works.{Between, visits_behind, UnderWay, StepWork, Hand, with_at, step_of, cap_of, Finishes, OnCourse, StepTurned, HasRows}
+use Rattle.step_work.specs.Views.{seen_visits, seen_gives, settled}
+use Rattle.step_work.specs.Stepping.{StepWork}
+use Rattle.revision.specs.Works.{Between, visits_behind, UnderWay, Hand, with_at, step_of, cap_of, Finishes, OnCourse, StepTurned, HasRows}
 use Rattle.revision.proofs.Stretches.{drop_at, drop_none, drop_past}
 use Rattle.revision.proofs.ViewLaws.{visits_seen, settled_gives}
 use Rattle.revision.proofs.StepLaws.{Ended, step_stops, step_ends}

@@ -19,7 +19,7 @@ use Rattle.change_meaning.specs.Caps.{PlainCaps}
 use Rattle.change_meaning.specs.JoinVisits.{join_visits}
 use Rattle.change_meaning.specs.MinusVisits.{minus_visits, turned}
 use Rattle.change_meaning.specs.Courses.{Course, changed_at, leaf_row, passing, row_gives, event_gives, visits, given}
-use Rattle.revision.specs.Views.{View, seen_visits, seen_gives, settled}
+use Rattle.step_work.specs.Views.{View, seen_visits, seen_gives, settled}
 use Rattle.revision.specs.Works.{Between}
 
 module _ (steps : List PlainStep) (caps : PlainCaps) (es : List EventChange) (c : Course) (v : View) (n : ℕ)

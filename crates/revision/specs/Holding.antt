@@ -19,7 +19,7 @@ use Rattle.change_meaning.specs.Keys.{IsWorkable}
 use Rattle.change_meaning.specs.Moved.{IsMoved}
 use Rattle.change_meaning.specs.Shown.{signed_rows}
 use Rattle.change_meaning.specs.Turns.{plan_visits}
-use Rattle.revision.specs.Views.{View}
+use Rattle.step_work.specs.Views.{View}
 use Rattle.revision.specs.Works.{Hand, HasRows, OnCourse}
 
 -- it holds the events E at the bound b: each step has exactly its kept rows, and each of these its supports

@@ -16,7 +16,7 @@ use Rattle.change_meaning.specs.Keys.{slots_at}
 use Rattle.change_meaning.specs.Caps.{PlainCaps}
 use Rattle.change_meaning.specs.Courses.{Course, changed_at, visits, IsCourse}
 use Rattle.change_meaning.specs.Turns.{visits_from}
-use Rattle.revision.specs.Views.{View, seen_visits, seen_gives, settled}
+use Rattle.step_work.specs.Views.{View, seen_visits, seen_gives, settled}
 
 -- ---- steps
 
@@ -42,28 +42,6 @@ at_start left = record { left = left; noted = λ s r. 0 }
 -- a step of which some visits are made, and what these give is noted
 abbrev pub UnderWay : List Visit → At → Type 0
 UnderWay all p = (n : ℕ) × Made (at_start all) p n 0
-
--- what work on a step does: its visits are made as far as the units go, or to the end
-abbrev pub MakesVisits : At → At → ℕ → Option ℕ → Type 0
-MakesVisits p q units None = Made p q units 0 × (q.left ≡ [] → ⊥)
-MakesVisits p q units (Some rest) = Made p q units rest × (q.left ≡ [])
-
--- a step without visits takes no units, and all that it gives is noted
-abbrev pub Notes : List Visit → At → At → ℕ → Option ℕ → Type 0
-Notes gives p q units result =
-    (result ≡ Some units) × (p.left ≡ q.left) × ((s : Sign) (r : Row) → q.noted s r ≡ p.noted s r + tally s r gives)
-
-abbrev pub StepWork : Option ℕ → (ℕ → List ℕ) → PlainStep → View → List EventChange
-    → At → At → ℕ → Option ℕ → Type 0
-StepWork cap slots (Named n heads) v es = Notes (seen_gives cap slots (Named n heads) v es)
-StepWork cap slots (Leaf of p) v es = Notes (seen_gives cap slots (Leaf of p) v es)
-StepWork cap slots (Join op l r) v es = MakesVisits
-StepWork cap slots (Either l r) v es = Notes (seen_gives cap slots (Either l r) v es)
-StepWork cap slots (Where of t) v es = Notes (seen_gives cap slots (Where of t) v es)
-StepWork cap slots (Exact of q) v es = Notes (seen_gives cap slots (Exact of q) v es)
-StepWork cap slots (Within of q) v es = Notes (seen_gives cap slots (Within of q) v es)
-StepWork cap slots (Minus j f i l) v es = MakesVisits
-StepWork cap slots (Head of head) v es = Notes (seen_gives cap slots (Head of head) v es)
 
 -- ---- plans
 
