@@ -9,4 +9,5 @@ pub mod Fits
 pub mod Built
 pub mod Goals
 pub mod Walked
+pub mod Few
 pub mod Walks
