@@ -59,9 +59,13 @@ steps_climbed of (p ∷ ps) ss = steps_over of p (steps_climbed of ps ss)
 
 -- ---- names
 
+-- the number beside a name, or this one where it isn't there
+abbrev pub place_or : ℕ → List (NameArity × ℕ) → NameArity → ℕ
+place_or other ps n = unwrap_or (lookup (eq_by_cmp name_cmp n) ps) other
+
 -- the number beside a name; 0 where it isn't there
 abbrev pub place_in : List (NameArity × ℕ) → NameArity → ℕ
-place_in ps n = unwrap_or (lookup (eq_by_cmp name_cmp n) ps) 0
+place_in = place_or 0
 
 -- the numbers of arguments of these names fit a byte
 abbrev pub AreNarrow : List (NameArity × ℕ) → Type 0

@@ -1,53 +1,63 @@
 // The plan of checked rules.
-ghost use Rattle.std.specs.Prelude.{◌≡◌, ◌≤◌, length, map, IfOk};
+ghost use Rattle.std.specs.Prelude.{◌≡◌, ◌≤◌, ℕ, length, map, IfOk, OnOk};
+ghost use Rattle.event_model.specs.declared.atoms.NameArity.{NameArity as NameArity_};
 ghost use Rattle.rule_ast.specs.Plain.{plain_rules};
 ghost use Rattle.rule_ast.specs.PlainPlans.{plain_step};
-ghost use Rattle.step_meaning.specs.PlanOf.{is_named, plan_of, step_of};
-ghost use Rattle.binariser.specs.Making.{IsPlan};
+ghost use Rattle.step_meaning.specs.PlanOf.{plan_of, step_of};
+ghost use Rattle.binariser.specs.Making.{IsPlan, place_or, with_place};
 
 use crate::faults::{MOST_STEPS, PlanFault};
 use crate::heads::head_rules;
 use crate::indexes::plan_indexes;
 use crate::names::plan_names;
 use crate::rules::push_names;
+use crate::sharing::share_name;
 use event_model::NameArity;
+use indexmap::IndexMap;
 use rule_ast::{Plan, Step, StepId};
 use rule_check::Checked;
 use std::alloc::{AllocError, Global};
 
-fn is_named(name: &NameArity, step: &Step) -> bool
-    ensures { result ≡ is_named name.now (plain_step step.now) }
+// A name gets this number.
+fn put_number(
+    named: &mut IndexMap<NameArity, StepId>,
+    name: &NameArity,
+    number: StepId,
+) -> Result<(), AllocError>
+    ensures { (other : ℕ) (n : NameArity_)
+        → OnOk result (place_or other named.new.entries n ≡ with_place (place_or other named.old.entries) name.now number n) }
 {
-    match step {
-        Step::Named { name: named, .. } => {
-            name.name.as_str() == named.name.as_str() && name.arity == named.arity
-        }
-        Step::Leaf { .. }
-        | Step::Join { .. }
-        | Step::Either { .. }
-        | Step::Where { .. }
-        | Step::Exact { .. }
-        | Step::Within { .. }
-        | Step::Minus { .. }
-        | Step::Head { .. } => false,
-    }
+    named.insert(share_name(name)?, number)?;
+    Ok(())
 }
 
-// The number of the step of a name, or that of no step.
-fn step_of(steps: &[Step], name: &NameArity) -> StepId
+// The numbers of the steps of names: where two are of the same name, that of the first.
+fn named_steps(alloc: Global, steps: &[Step]) -> Result<IndexMap<NameArity, StepId>, AllocError>
     requires { length steps.now ≤ MOST_STEPS }
-    ensures { result ≡ step_of (map plain_step steps.now) name.now }
+    ensures { (n : NameArity_) → IfOk result (λ m. place_or (length steps.now) m.entries n ≡ step_of (map plain_step steps.now) n) }
 {
-    let mut number: StepId = 0;
-    for step in steps {
-        if is_named(name, step) {
-            return number;
+    let mut named = IndexMap::new(alloc);
+    let mut number = steps.len();
+    while number > 0 {
+        number -= 1;
+        if let Step::Named { name, .. } = &steps[number] {
+            put_number(&mut named, name, number as StepId)?;
         }
-        number += 1;
     }
-    number
+    Ok(named)
 }
 
+// The number of a name, or this one where it has none.
+fn number_of(named: &IndexMap<NameArity, StepId>, name: &NameArity, none: StepId) -> StepId
+    ensures { result ≡ place_or none named.now.entries name.now }
+{
+    match named.get(name) {
+        Some(number) => *number,
+        None => none,
+    }
+}
+
+// The number of the step of each name, or that of no step.
 fn shown_steps(
     alloc: Global,
     steps: &[Step],
@@ -56,9 +66,10 @@ fn shown_steps(
     requires { length steps.now ≤ MOST_STEPS }
     ensures { IfOk result (λ v. v.items ≡ map (step_of (map plain_step steps.now)) names.now) }
 {
+    let named = named_steps(alloc, steps)?;
     let mut shown = Vec::with_capacity(alloc, names.len())?;
     for name in names {
-        shown.push(step_of(steps, name))?;
+        shown.push(number_of(&named, name, steps.len() as StepId))?;
     }
     Ok(shown)
 }
