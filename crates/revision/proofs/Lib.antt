@@ -5,3 +5,10 @@ pub mod FinishLaws
 pub mod TurnLaws
 pub mod BoundLaws
 pub mod HoldLaws
+pub mod MarkLaws
+pub mod PartLaws
+pub mod EndLaws
+pub mod WorkLaws
+pub mod TellLaws
+pub mod NewLaws
+pub mod IdleLaws

@@ -69,7 +69,7 @@ module _ (h : Hand) (c : Course) (b : Between h.steps h.caps h.changes c h.view 
 
 module _ (h : Hand) (c : Course) (left units : ℕ) (s : PlainStep) (at : step_of h ≡ Some s) (p : At)
     (on : OnCourse h c left) where
-  seen_under : UnderWay (seen_visits (cap_of h) (slots_at h.steps) s h.view) h.at
+  pub seen_under : UnderWay (seen_visits (cap_of h) (slots_at h.steps) s h.view) h.at
   seen_under =
       subst (λ all. UnderWay all h.at)
       (sym (visits_seen h.steps h.caps h.changes c h.view h.finished on.between (cap_of h) (slots_at h.steps) s

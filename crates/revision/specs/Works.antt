@@ -8,15 +8,15 @@ use Rattle.event_changes.specs.declared.changes.Sign.{Sign}
 use Rattle.event_changes.specs.declared.changes.Sign.TheVariants as sign
 use Rattle.event_changes.specs.declared.events.EventChange.{EventChange}
 use Rattle.ev_bind.specs.declared.rows.Row.{Row}
-use Rattle.rule_ast.specs.PlainPlans.{PlainStep, Named, Leaf, Join, Either, Where, Exact, Within, Minus, Head}
+use Rattle.rule_ast.specs.PlainPlans.{PlainStep}
 use Rattle.step_meaning.specs.StepRows.{step_at}
 use Rattle.row_changes.specs.Changes.{IsChange, IsHeld}
-use Rattle.row_changes.specs.Visits.{Visit, tally, At, Made}
+use Rattle.row_changes.specs.Visits.{Visit, At, Made}
 use Rattle.change_meaning.specs.Keys.{slots_at}
 use Rattle.change_meaning.specs.Caps.{PlainCaps}
 use Rattle.change_meaning.specs.Courses.{Course, changed_at, visits, IsCourse}
 use Rattle.change_meaning.specs.Turns.{visits_from}
-use Rattle.step_work.specs.Views.{View, seen_visits, seen_gives, settled}
+use Rattle.step_work.specs.Views.{View, seen_visits, settled}
 
 -- ---- steps
 

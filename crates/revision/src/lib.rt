@@ -1,4 +1,13 @@
 //! The work on changes of events: they go through all steps of a plan, in turns.
 #![tactic(auto)]
 
+mod applying;
+mod idling;
+mod lists;
+mod making;
+mod parts;
+mod telling;
+mod work;
+
 pub use event_changes::{Changed, Changes, EventChange, Progress, Sign};
+pub use work::Work;

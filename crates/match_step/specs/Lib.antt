@@ -1,0 +1,4 @@
+pub mod Left
+pub mod Joining
+pub mod Rows
+pub mod Few

@@ -1,0 +1,4 @@
+pub mod SlotLaws
+pub mod IndexLaws
+pub mod WayLaws
+pub mod NoteLaws
