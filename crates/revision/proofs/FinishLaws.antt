@@ -172,7 +172,8 @@ module _ (c : Course) (h new : Hand) (s : PlainStep) (b : Between h.steps h.caps
 
   new_changed : new.view.changed n ≡ changed_at c n
   new_changed =
-      one_change (c.old_count n) (c.new_count n) (c.old n) (c.new n) (new.view.changed n) (b.course.old_held n) (b.course.new_held n) (record {
+      one_change (c.old_count n) (c.new_count n) (c.old n) (c.new n) (new.view.changed n) (b.course.old_held n)
+      (b.course.new_held n) (record {
         in_order = f.changed.in_order;
         each = λ r. f.changed.each r ∙ (λ i. change (b.counts_ahead n here r i) (new_count r i));
       })

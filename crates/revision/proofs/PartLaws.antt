@@ -1,11 +1,11 @@
 -- The parts of a work: a step of their plan, the end of a step, and how far they have come.
-use Rattle.std.specs.Prelude.{ℕ, zero, suc, ◌≡◌, ◌≢◌, ◌+◌, ◌<◌, ◌≤◌, ◌^◌, refl, Option, Some, None, List, [], ◌∷◌, length, map, slice_get, Result, IfOk}
+use Rattle.std.specs.Prelude.{ℕ, zero, suc, ◌≡◌, ◌≢◌, ◌+◌, ◌<◌, ◌≤◌, ◌^◌, refl, Option, Some, None, List, [], ◌∷◌, length, map, slice_get, get_or, Result, IfOk}
 use Rattle.std.specs.Option.{option_map}
 use Rattle.std.specs.declared.alloc.AllocError.{AllocError}
 use Rattle.std.specs.declared.alloc.Global.{Global}
 use Rattle.std.specs.declared.vec.Vec.{Vec}
 use Rattle.std.proofs.Common.{ap, sym, ◌∙◌, subst, arith}
-use Rattle.std.proofs.lemmas.Option.{none-some, same_Some, slice_get-map}
+use Rattle.std.proofs.lemmas.Option.{none-some, same_Some, slice_get-map, slice_get_read}
 use Rattle.event_changes.specs.declared.changes.Sign.{Sign}
 use Rattle.event_changes.specs.declared.changes.Sign.TheVariants as sign
 use Rattle.event_changes.specs.declared.events.EventChange.{EventChange}
@@ -57,7 +57,12 @@ step_slice (s ∷ ss) (suc i) = step_slice ss i
 pub sliced : (ss : List PlainStep) (i : ℕ) (s : PlainStep) → step_at ss i ≡ Some s → slice_get ss i ≡ Some s
 sliced ss i s e = sym (step_slice ss i) ∙ e
 
-pub step_there : (steps : List Step) (n : ℕ) (s : Step) → slice_get steps n ≡ Some s → step_at (map plain_step steps) n ≡ Some (plain_step s)
+-- an item that is read is there
+pub read_at : {A : Type 0} (xs : List A) (n : ℕ) (x : A) → n < length xs → x ≡ get_or xs n x → slice_get xs n ≡ Some x
+read_at xs n x lt e = slice_get_read xs (length xs) n x refl lt e
+
+pub step_there : (steps : List Step) (n : ℕ) (s : Step) → slice_get steps n ≡ Some s
+    → step_at (map plain_step steps) n ≡ Some (plain_step s)
 step_there steps n s e =
     step_slice (map plain_step steps) n ∙ slice_get-map plain_step steps n ∙ ap (option_map plain_step) e
 

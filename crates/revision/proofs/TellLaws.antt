@@ -20,10 +20,12 @@ values_numbered k [] = refl
 values_numbered k (t ∷ ts) = ap (λ l. t ∷ l) (values_numbered (suc k) ts)
 
 pub told_front : (n : NameArity) (s : Sign) (d : SignedRow) (ds : List SignedRow)
-    → map (detection_of n) (signed_rows s (d ∷ ds)) ≡ map (detection_of n) (signed_rows s (d ∷ [])) ++ map (detection_of n) (signed_rows s ds)
+    → map (detection_of n) (signed_rows s (d ∷ ds))
+    ≡ map (detection_of n) (signed_rows s (d ∷ [])) ++ map (detection_of n) (signed_rows s ds)
 told_front n s d ds = at (same_sign s d.sign)
   where
-    at : (b : Bool) → map (detection_of n) (delta_rows (cond b (d ∷ filter (λ e. same_sign s e.sign) ds) (filter (λ e. same_sign s e.sign) ds)))
+    at : (b : Bool)
+        → map (detection_of n) (delta_rows (cond b (d ∷ filter (λ e. same_sign s e.sign) ds) (filter (λ e. same_sign s e.sign) ds)))
         ≡ map (detection_of n) (delta_rows (cond b (d ∷ []) [])) ++ map (detection_of n) (delta_rows (filter (λ e. same_sign s e.sign) ds))
     at true = refl
     at false = refl

@@ -118,7 +118,8 @@ module _ (h : Hand) (c : Course) (left units : ℕ) (s : PlainStep) (at : step_o
         (λ i. visits_behind (f.steps i) (f.caps i) c (f.finished i)) in (
           length (visits_behind new.steps new.caps c new.finished),
           on_course new c b
-              (λ s' e. f.left s' (sym place ∙ e) ∙ (λ i. seen_visits ((sym f.caps i).cap (sym f.finished i)) (slots_at (sym f.steps i)) s' new.view))
+              (λ s' e. f.left s' (sym place ∙ e)
+              ∙ (λ i. seen_visits ((sym f.caps i).cap (sym f.finished i)) (slots_at (sym f.steps i)) s' new.view))
               (λ e. f.none_left (sym place ∙ e)) f.noted,
           (let l = ap length all in let n = on.number in let e = ended.spent in omega (arith, l, n, e)),
         )
@@ -130,7 +131,8 @@ pub turned_on : (now units left before used : ℕ) → now + before ≡ left + u
 turned_on now units left before used a b = omega (arith, a, b)
 
 -- the units of more steps add up
-pub turned_more : (now units left before then rest : ℕ) → now + before ≡ left + units → then + units ≡ now + rest → then + before ≡ left + rest
+pub turned_more : (now units left before then rest : ℕ) → now + before ≡ left + units → then + units ≡ now + rest
+    → then + before ≡ left + rest
 turned_more now units left before then rest a b = omega (arith, a, b)
 
 -- past the last step no visit is left

@@ -98,5 +98,6 @@ module _ (steps : List PlainStep) (caps : PlainCaps) (es : List EventChange) (c 
       at (Exact of q) low e h = h t r
       at (Within of q) low e h = h t r
       at (Minus j f m l) low e h =
-          (λ i. turned t (h sign.Plus r i) (h sign.Minus r i) (b.counts_ahead n (omega arith) r i)) ∙ b.course.settled n (Minus j f m l) e t r
+          (λ i. turned t (h sign.Plus r i) (h sign.Minus r i) (b.counts_ahead n (omega arith) r i))
+          ∙ b.course.settled n (Minus j f m l) e t r
       at (Head of head) low e h = h t r

@@ -126,8 +126,8 @@ impl Parts {
         requires within { self.old.finished < length self.old.plan.steps.items }
         requires course { ∥ IsOn self.old ∥₁ }
         ensures work { (s : PlainStep) → step_at (steps_in self.old) self.old.finished ≡ Some s → IsReady self.old
-            → IfOk result (λ r. StepWork (cap_of (hand self.old)) (slots_at (steps_in self.old)) s (hand self.old).view self.old.events.items
-            (hand self.old).at (hand self.new).at units r) }
+            → IfOk result (λ r. StepWork (cap_of (hand self.old)) (slots_at (steps_in self.old)) s (hand self.old).view
+            self.old.events.items (hand self.old).at (hand self.new).at units r) }
         ensures rest { self.new ≡ record self.old { spot = self.new.spot; pending = self.new.pending } }
     {
         let at = self.finished;

@@ -200,8 +200,10 @@ pub(crate) fn tell_change(
     gone: &mut Vec<Detection>,
     come: &mut Vec<Detection>,
 ) -> Result<(), AllocError>
-    ensures gone { OnOk result (gone.new.items ≡ canon detection_cmp (told_by Minus (map plain_step plan.now.steps.items) plan.now.shown.items changed.now)) }
-    ensures come { OnOk result (come.new.items ≡ canon detection_cmp (told_by Plus (map plain_step plan.now.steps.items) plan.now.shown.items changed.now)) }
+    ensures gone { OnOk result (gone.new.items
+        ≡ canon detection_cmp (told_by Minus (map plain_step plan.now.steps.items) plan.now.shown.items changed.now)) }
+    ensures come { OnOk result (come.new.items
+        ≡ canon detection_cmp (told_by Plus (map plain_step plan.now.steps.items) plan.now.shown.items changed.now)) }
 {
     tell(alloc, Sign::Minus, &plan.steps, changed, &plan.shown, gone)?;
     tell(alloc, Sign::Plus, &plan.steps, changed, &plan.shown, come)

@@ -30,7 +30,8 @@ impl Work {
     ghost use Rattle.change_meaning.specs.Keys.{IsWorkable};
     ghost use Rattle.change_meaning.specs.Shown.{shown_change};
     ghost use Rattle.revision.specs.Holding.{visits_to};
-    ghost use Rattle.revision.specs.Working.{steps_of, caps_of, shown_of, plan_of_work, change_of, made_of, held_of, is_working, is_broken, work_left, SamePlanOf, WorkHolds, CanWork, WorkGoes, WorkTurned};
+    ghost use Rattle.revision.specs.Working.{steps_of, caps_of, shown_of, plan_of_work, change_of, made_of, held_of, is_working, is_broken};
+    ghost use Rattle.revision.specs.Working.{work_left, SamePlanOf, WorkHolds, CanWork, WorkGoes, WorkTurned};
 
     /// Over no events. The plan has the indexes for which its steps ask.
     pub fn new(alloc: Global, plan: Plan, caps: CapList) -> Result<Work, AllocError>

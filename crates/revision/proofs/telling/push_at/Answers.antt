@@ -26,6 +26,7 @@ returns-then-at-steps c =
     let there = step_there steps c.args.id c.index-steps-at.result
     (slice_get_read steps (length steps) c.args.id c.index-steps-at.result refl within c.index-steps-at.is) in
     let tells : Option PlainStep → List Delta → Type 0 = λ o rows.
-    OnOk c.push_step.result (c.push_step.new.out.items ≡ c.args.out.now.items ++ detections_of o (signed_rows c.args.sign (plain_deltas rows))) in
+    OnOk c.push_step.result (c.push_step.new.out.items
+    ≡ c.args.out.now.items ++ detections_of o (signed_rows c.args.sign (plain_deltas rows))) in
     subst (λ o. tells o (changed_rows c.args.changed.now c.args.id)) (sym there)
     (subst (λ rows. tells (Some (plain_step c.index-steps-at.result)) rows) c.rows_of-rows.ensures c.push_step.ensures)

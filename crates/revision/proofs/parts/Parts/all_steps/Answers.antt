@@ -29,7 +29,8 @@ loop-self-preserved c =
           let t = rw c.in-Some.is at (c.in_ok-one_step.ensures.turn k i.0 i.1) in
           (t.0, t.1, turned_more i.0 c.loop-self.units left c.args.units t.0 c.in-Some.rest i.2 t.2));
       stays = stays_on c.args.self.now c.loop-self.self c.one_step.new.self c.loop-self.invariant.stays c.one_step.ensures.stays;
-      ahead = inr (further_on c.args.self.now c.loop-self.self c.one_step.new.self c.loop-self.units c.args.units c.loop-self.invariant.ahead f.1);
+      ahead = inr (further_on c.args.self.now c.loop-self.self c.one_step.new.self c.loop-self.units c.args.units
+          c.loop-self.invariant.ahead f.1);
     }
 
 pub returns-clause-turned : goal.returns-clause-turned

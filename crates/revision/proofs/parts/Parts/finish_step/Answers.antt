@@ -2,7 +2,7 @@ use mathlib.Core.Logic.{∥∥₁_elim}
 use Rattle.std.proofs.Math.Bridge.{le_prop}
 use Rattle.std.specs.Coded.{Coded-set, coded_ℕ}
 use Rattle.std.proofs.Common.{◌≡◌, ◌<◌, ◌^◌, length, refl, sym, ◌∙◌, arith}
-use Rattle.std.proofs.lemmas.Option.{same_Some, slice_get_read}
+use Rattle.std.proofs.lemmas.Option.{same_Some}
 use Rattle.event_changes.specs.declared.changes.Sign.{Sign}
 use Rattle.ev_bind.specs.declared.rows.Row.{Row}
 use Rattle.rule_ast.specs.PlainPlans.{plain_step}
@@ -10,7 +10,7 @@ use Rattle.support_table.specs.Supports.{count_of}
 use Rattle.step_changes.specs.Notes.{noted}
 use Rattle.step_work.specs.Views.{settled}
 use Rattle.revision.proofs.MarkLaws.{mark_set}
-use Rattle.revision.proofs.PartLaws.{step_there, over_fewer, over_room, over_marks, step_stored, step_listed, finished_then, ready_then}
+use Rattle.revision.proofs.PartLaws.{read_at, step_there, over_fewer, over_room, over_marks, step_stored, step_listed, finished_then, ready_then}
 use Rattle.revision.proofs.parts.Parts.finish_step.Goals as goal
 
 pub overflow_cast-id : goal.overflow_cast-id
@@ -31,13 +31,13 @@ apply_notes-requires-clause-list c = ∥∥₁_elim c.requires.over le_prop (λ 
 pub apply_notes-requires-clause-room : goal.apply_notes-requires-clause-room
 apply_notes-requires-clause-room c = λ r. ∥∥₁_elim c.requires.over le_prop (λ o.
     let me = c.args.self.now in
-    let there = slice_get_read me.plan.steps.items (length me.plan.steps.items) me.finished c.index-step.result.now refl c.requires.within c.index-step.ensures in
+    let there = read_at me.plan.steps.items me.finished c.index-step.result.now c.requires.within c.index-step.ensures in
     over_room me o c.index-step.result.now there (noted c.settle_notes.new.pending) c.in_ok-settle_notes.ensures.noted r)
 
 pub apply_notes-requires-clause-fewer : goal.apply_notes-requires-clause-fewer
 apply_notes-requires-clause-fewer c = λ r. ∥∥₁_elim c.requires.over le_prop (λ o.
     let me = c.args.self.now in
-    let there = slice_get_read me.plan.steps.items (length me.plan.steps.items) me.finished c.index-step.result.now refl c.requires.within c.index-step.ensures in
+    let there = read_at me.plan.steps.items me.finished c.index-step.result.now c.requires.within c.index-step.ensures in
     over_fewer me o c.index-step.result.now there (noted c.settle_notes.new.pending) c.in_ok-settle_notes.ensures.noted r)
 
 pub apply_notes-requires-clause-old : goal.apply_notes-requires-clause-old
@@ -46,10 +46,12 @@ apply_notes-requires-clause-old c = λ r. ∥∥₁_elim c.requires.over (mark_s
 pub returns-clause-finishes : goal.returns-clause-finishes
 returns-clause-finishes c = λ s here ready.
     let me = c.args.self.now in
-    let there = slice_get_read me.plan.steps.items (length me.plan.steps.items) me.finished c.index-step.result.now refl c.requires.within c.index-step.ensures in
+    let there = read_at me.plan.steps.items me.finished c.index-step.result.now c.requires.within c.index-step.ensures in
     let same : plain_step c.index-step.result.now ≡ s =
-    same_Some (plain_step c.index-step.result.now) s (sym (step_there me.plan.steps.items me.finished c.index-step.result.now there) ∙ here) in
-    let settles : (t : Sign) (r : Row) → noted c.settle_notes.new.pending t r ≡ settled s (count_of me.supports me.finished) (noted me.pending) t r =
+    same_Some (plain_step c.index-step.result.now) s
+    (sym (step_there me.plan.steps.items me.finished c.index-step.result.now there) ∙ here) in
+    let settles : (t : Sign) (r : Row) → noted c.settle_notes.new.pending t r
+    ≡ settled s (count_of me.supports me.finished) (noted me.pending) t r =
     (λ t r. c.in_ok-settle_notes.ensures.noted t r ∙ (λ i. settled (same i) (count_of me.supports me.finished) (noted me.pending) t r)) in
     let done = c.in_ok-apply_notes.ensures in
     finished_then me s here ready c.apply_notes.new.goals c.apply_notes.new.supports c.apply_notes.new.pending c.settle_notes.new.spare
@@ -62,7 +64,7 @@ returns-clause-finishes c = λ s here ready.
 pub returns-clause-ready : goal.returns-clause-ready
 returns-clause-ready c = λ ready.
     let me = c.args.self.now in
-    let there = slice_get_read me.plan.steps.items (length me.plan.steps.items) me.finished c.index-step.result.now refl c.requires.within c.index-step.ensures in
+    let there = read_at me.plan.steps.items me.finished c.index-step.result.now c.requires.within c.index-step.ensures in
     let done = c.in_ok-apply_notes.ensures in
     ready_then me (plain_step c.index-step.result.now) (step_there me.plan.steps.items me.finished c.index-step.result.now there) ready
     c.apply_notes.new.goals c.apply_notes.new.supports c.apply_notes.new.pending c.settle_notes.new.spare

@@ -2,11 +2,10 @@ use mathlib.Core.Logic.{∥∥₁_elim, ∥∥₁_map}
 use Rattle.std.specs.Coded.{Coded-set, coded_ℕ}
 use Rattle.std.proofs.Common.{◌+◌, ◌<◌, length, map, refl, ◌∙◌, ap, arith}
 use Rattle.std.proofs.lemmas.List.{length-map}
-use Rattle.std.proofs.lemmas.Option.{slice_get_read}
 use Rattle.rule_ast.specs.PlainPlans.{plain_step}
 use Rattle.revision.specs.InHand.{steps_in}
 use Rattle.revision.specs.declared.parts.Parts.{Parts}
-use Rattle.revision.proofs.PartLaws.{some_step, step_there, ready_on, there_on, stays_mid, stays_at, goes_on, fewer_on, over_on, ends_on}
+use Rattle.revision.proofs.PartLaws.{read_at, some_step, step_there, ready_on, there_on, stays_mid, stays_at, goes_on, fewer_on, over_on, ends_on}
 use Rattle.revision.proofs.parts.Parts.one_step.Goals as goal
 
 here : (p : Parts) → p.finished < length p.plan.steps.items → p.finished < length (steps_in p)
@@ -66,7 +65,8 @@ returns-clause-further c =
     )
 
 pub returns-clause-stays : goal.returns-clause-stays
-returns-clause-stays c = stays_mid c.args.self.now c.work_on.new.self c.work_on.ensures.rest c.finish_step.new.self c.finish_step.ensures.stays
+returns-clause-stays c =
+    stays_mid c.args.self.now c.work_on.new.self c.work_on.ensures.rest c.finish_step.new.self c.finish_step.ensures.stays
 
 pub returns-in_default-clause-stays : goal.returns-in_default-clause-stays
 returns-in_default-clause-stays c = stays_at c.args.self.now c.work_on.new.self c.work_on.ensures.rest
@@ -74,7 +74,7 @@ returns-in_default-clause-stays c = stays_at c.args.self.now c.work_on.new.self 
 pub returns-then-is_idle-clause-turn : goal.returns-then-is_idle-clause-turn
 returns-then-is_idle-clause-turn c = λ k left g.
     let me = c.args.self.now in
-    let there = slice_get_read me.plan.steps.items (length me.plan.steps.items) me.finished c.index-step.result.now refl c.requires.within c.index-step.ensures in
+    let there = read_at me.plan.steps.items me.finished c.index-step.result.now c.requires.within c.index-step.ensures in
     c.pass_step.ensures.passes k left c.args.units (plain_step c.index-step.result.now) g
     (step_there me.plan.steps.items me.finished c.index-step.result.now there)
     ((rw c.deref.ensures.value at c.is_idle.ensures) c.if-is_idle.true)

@@ -34,6 +34,7 @@ returns-in_ok-tell_change-in-Some-clause-turned c = λ b E F left w ready.
     let g = rw c.in-Some.is at (c.in_ok-all_steps.ensures.turned k left (record { on = w.course; ready = ready })) in
     all_over me mid c.all_steps.ensures.stays b E F left c.args.units c.in-Some.rest w g c.settle.new.self c.tell_change.new.gone
     c.tell_change.new.come c.saturating_add-self-in-Some.result c.settle.ensures.marks c.settle.ensures.plan
-    (rw c.deref.ensures.value at c.in_ok-tell_change-in-Some.ensures.gone) (rw c.deref.ensures.value at c.in_ok-tell_change-in-Some.ensures.come)
+    (rw c.deref.ensures.value at c.in_ok-tell_change-in-Some.ensures.gone)
+    (rw c.deref.ensures.value at c.in_ok-tell_change-in-Some.ensures.come)
     (c.saturating_add-self-in-Some.ensures
     ∙ (λ i. counted (c.all_steps.ensures.stays.made i + c.saturating_sub.ensures i)))
