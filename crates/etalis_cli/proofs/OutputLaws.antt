@@ -1,16 +1,19 @@
 -- The replies to lines, and what they leave.
-use Rattle.std.proofs.Common.{◌≡◌, ℕ, ◌+◌, zero, suc, Option, List, [], ◌∷◌, ◌++◌, length, map, take, refl, sym, ap, ◌∙◌, zero-add, arith}
+use Rattle.std.proofs.Common.{◌≡◌, ℕ, ◌+◌, zero, suc, Option, List, [], ◌∷◌, ◌++◌, length, map, take, refl, sym, ap, ◌∙◌, subst, zero-add, arith, ◌≤◌, Bool, true, false, if◌then◌else◌}
 use Rattle.std.specs.List.{flat_map, sum_by}
 use Rattle.std.proofs.lemmas.List.Sums.{sum_by-cons}
 use Rattle.event_model.specs.Bytes.{plus}
 use Rattle.event_model.specs.Lines.{lines_of}
-use Rattle.event_model.specs.Presence.{in_batch}
+use Rattle.std.proofs.lemmas.Bool.Decides.{nat_tests}
+use Rattle.event_model.specs.Presence.{History, Verdict, Accepted, Refused, verdict, in_batch}
 use Rattle.rule_ast.specs.Trees.{PlainStatement}
-use Rattle.pattern_meaning.specs.Replies.{State, Reply, Silent, Refusing, Changing, replies_to, reply_to_said, reply_text, change_texts, end_text, drill_text, after_said, standing_after}
+use Rattle.pattern_meaning.specs.Replies.{State, Reply, Silent, Refusing, Changing, change_by, is_told, reply, replies_to, reply_to_said, reply_text, change_texts, end_text, drill_text, after_said, standing_after}
 use Rattle.pattern_meaning.specs.Left.{left_is_standing}
 use Rattle.event_reader.specs.Machine.{heard}
+use Rattle.revision.specs.Holding.{MOST_COUNTED, counted as capped}
+use Rattle.etalis_core.specs.StandsFor.{visits_by}
 use Rattle.etalis_cli.specs.Headline.{told_in, withdrawn_in, IsWritten, IsScratched, IsDrilled, LeavesWhatStands}
-use Rattle.etalis_cli.specs.Output.{Setting, Talk, start, after, after_line, refusal_in, voiced, tallied, counted, tally_after, closing_in, closing, replies_said, after_said_all, same_voice}
+use Rattle.etalis_cli.specs.Output.{Setting, Talk, start, after, after_line, refusal_in, voiced, visits_in, visits_said, visits_to, tallied, counted, tally_after, closing_in, closing, replies_said, after_said_all, same_voice}
 use Rattle.etalis_cli.specs.declared.voices.Voice.TheVariants.{Replies, Refusals, Counts}
 use Rattle.etalis_cli.specs.declared.voices.Tally.{Tally}
 use Rattle.etalis_cli.proofs.FeedLaws.{count-after}
@@ -42,24 +45,50 @@ scratched rules late bytes =
 
 -- ---- what is counted
 
-tallied_told : (tally : Tally) (r : Reply) → (tallied tally r).told ≡ tally.told + told_in r
-tallied_told tally Silent = omega arith
-tallied_told tally (Refusing n why) = omega arith
-tallied_told tally (Changing n c) = refl
+tallied_told : (tally : Tally) (r : Reply) (visits : ℕ) → (tallied tally r visits).told ≡ tally.told + told_in r
+tallied_told tally Silent visits = omega arith
+tallied_told tally (Refusing n why) visits = omega arith
+tallied_told tally (Changing n c) visits = refl
 
-tallied_withdrawn : (tally : Tally) (r : Reply) → (tallied tally r).withdrawn ≡ tally.withdrawn + withdrawn_in r
-tallied_withdrawn tally Silent = omega arith
-tallied_withdrawn tally (Refusing n why) = omega arith
-tallied_withdrawn tally (Changing n c) = refl
+tallied_withdrawn : (tally : Tally) (r : Reply) (visits : ℕ) → (tallied tally r visits).withdrawn ≡ tally.withdrawn + withdrawn_in r
+tallied_withdrawn tally Silent visits = omega arith
+tallied_withdrawn tally (Refusing n why) visits = omega arith
+tallied_withdrawn tally (Changing n c) visits = refl
+
+-- a count that isn't past its end, and none more
+none_more : (n : ℕ) → n ≤ MOST_COUNTED → n ≡ capped (n + 0)
+none_more n few = grind (arith, nat_tests)
+
+-- the visits of a line
+tallied_visits : (rules : List PlainStatement) (late : Option ℕ) (h : History) (n : ℕ) (v : Verdict) (tally : Tally) → tally.visits ≤ MOST_COUNTED
+    → (tallied tally (reply rules h n v) (visits_in rules late h v)).visits ≡ capped (tally.visits + visits_in rules late h v)
+tallied_visits rules late h n (Refused why) tally few = none_more tally.visits few
+tallied_visits rules late h n (Accepted input) tally few = at (is_told h input) (visits_by rules late h input)
+  where
+    at : (b : Bool) (visits : ℕ) → (tallied tally (if b then Changing n (change_by rules h input) else Silent) (if b then visits else 0)).visits
+        ≡ capped (tally.visits + (if b then visits else 0))
+    at true visits = refl
+    at false visits = none_more tally.visits few
 
 -- a line more, where the answers are counted
 line_told : (t : Talk) (line : List ℕ) → t.voice ≡ Counts → (tally_after t line).told ≡ t.tally.told + told_in (reply_to_said t.state (heard line))
 unfolding tally_after
-line_told t line e = ap (λ v. (counted v t.tally (reply_to_said t.state (heard line))).told) e ∙ tallied_told t.tally (reply_to_said t.state (heard line))
+line_told t line e =
+    ap (λ v. (counted v t.tally (reply_to_said t.state (heard line)) (visits_said t.state (heard line))).told) e
+    ∙ tallied_told t.tally (reply_to_said t.state (heard line)) (visits_said t.state (heard line))
 
 line_withdrawn : (t : Talk) (line : List ℕ) → t.voice ≡ Counts → (tally_after t line).withdrawn ≡ t.tally.withdrawn + withdrawn_in (reply_to_said t.state (heard line))
 unfolding tally_after
-line_withdrawn t line e = ap (λ v. (counted v t.tally (reply_to_said t.state (heard line))).withdrawn) e ∙ tallied_withdrawn t.tally (reply_to_said t.state (heard line))
+line_withdrawn t line e =
+    ap (λ v. (counted v t.tally (reply_to_said t.state (heard line)) (visits_said t.state (heard line))).withdrawn) e
+    ∙ tallied_withdrawn t.tally (reply_to_said t.state (heard line)) (visits_said t.state (heard line))
+
+line_visits : (t : Talk) (line : List ℕ) → t.voice ≡ Counts → t.tally.visits ≤ MOST_COUNTED
+    → (tally_after t line).visits ≡ capped (t.tally.visits + visits_said t.state (heard line))
+unfolding tally_after
+line_visits t line e few =
+    ap (λ v. (counted v t.tally (reply_to_said t.state (heard line)) (visits_said t.state (heard line))).visits) e
+    ∙ tallied_visits t.state.rules t.state.late t.state.history (t.state.count + 1) (verdict t.state.late t.state.history (heard line)) t.tally few
 
 told_after : (t : Talk) (lines : List (List ℕ)) → t.voice ≡ Counts → (after t lines).tally.told ≡ t.tally.told + sum_by told_in (replies_to t.state (map heard lines))
 told_after t [] e = omega arith
@@ -73,6 +102,23 @@ withdrawn_after t (line ∷ lines) e =
     let r : Reply = reply_to_said t.state (heard line) in
     omega (arith, withdrawn_after (after_line t line) lines e, line_withdrawn t line e, sum_by-cons withdrawn_in r (replies_to (after_said t.state (heard line)) (map heard lines)))
 
+-- a count is never past its end
+capped_few : (n : ℕ) → capped n ≤ MOST_COUNTED
+capped_few n = grind (arith, nat_tests)
+
+capped_more : (a m n : ℕ) → capped (capped (a + m) + n) ≡ capped (a + (m + n))
+capped_more a m n = grind (arith, nat_tests)
+
+visits_after : (t : Talk) (lines : List (List ℕ)) → t.voice ≡ Counts → t.tally.visits ≤ MOST_COUNTED
+    → (after t lines).tally.visits ≡ capped (t.tally.visits + visits_to t.state (map heard lines))
+visits_after t [] e few = none_more t.tally.visits few
+visits_after t (line ∷ lines) e few =
+    let one = line_visits t line e few in
+    let few_more : (tally_after t line).visits ≤ MOST_COUNTED = subst (λ n. n ≤ MOST_COUNTED) (sym one) (capped_few (t.tally.visits + visits_said t.state (heard line))) in
+    visits_after (after_line t line) lines e few_more
+    ∙ ap (λ n. capped (n + visits_to (after_said t.state (heard line)) (map heard lines))) one
+    ∙ capped_more t.tally.visits (visits_said t.state (heard line)) (visits_to (after_said t.state (heard line)) (map heard lines))
+
 no_text : (replies : List Reply) → flat_map (voiced Counts) replies ≡ []
 no_text [] = refl
 no_text (r ∷ replies) = no_text replies
@@ -84,9 +130,11 @@ drilled rules late bytes =
     let rs : List Reply = replies_to t.state (map heard lines) in
     let told : (after t lines).tally.told ≡ sum_by told_in rs = told_after t lines refl ∙ zero-add (sum_by told_in rs) in
     let withdrawn : (after t lines).tally.withdrawn ≡ sum_by withdrawn_in rs = withdrawn_after t lines refl ∙ zero-add (sum_by withdrawn_in rs) in
+    let all : ℕ = visits_to t.state (map heard lines) in
+    let visits : (after t lines).tally.visits ≡ capped all = visits_after t lines refl (omega arith) ∙ ap capped (zero-add all) in
     ap (λ r. r ++ closing (after t lines)) (replies_said t lines ∙ no_text rs)
     ∙ ap (λ v. closing_in v (after t lines).state (after t lines).tally) (same_voice t lines)
-    ∙ (λ i. drill_text (told i) (withdrawn i) 0 0)
+    ∙ (λ i. drill_text (told i) (withdrawn i) (visits i) 0)
 
 pub first_replies : (s : State) (n : ℕ) (lines : List (List ℕ)) → replies_to s (map heard (take n lines)) ≡ take n (replies_to s (map heard lines))
 first_replies s zero lines = refl

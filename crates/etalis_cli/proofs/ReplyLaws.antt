@@ -1,11 +1,11 @@
 -- The reply to a line, by what it says and how that is judged.
-use Rattle.std.proofs.Common.{◌≡◌, ℕ, ◌<◌, Result, Ok, Err, IfOk, Option, Some, None, List, [], ◌∷◌, ◌++◌, length, map, refl, sym, ap, ◌∙◌, arith, ◌+◌, ◌≤◌, drop, get_or, add-one, append_assoc, append-nil}
+use Rattle.std.proofs.Common.{◌≡◌, ℕ, ◌<◌, ◌&&◌, ◌||◌, not, Bool, true, false, if◌then◌else◌, Result, Ok, Err, IfOk, Option, Some, None, List, [], ◌∷◌, ◌++◌, length, map, refl, sym, ap, ◌∙◌, subst, arith, ◌+◌, ◌≤◌, drop, get_or, add-one, append_assoc, append-nil}
 use Rattle.std.specs.List.{flat_map}
 use Rattle.std.proofs.Math.Seq.{drop-cons}
 use Rattle.std.proofs.lemmas.List.{drop_all}
 use Rattle.std.proofs.lemmas.List.Concat.{flat_map-append}
 use Rattle.event_model.specs.Bytes.{plus, minus}
-use Rattle.event_model.specs.Presence.{History, all_inputs, extended, copies, judge, Says, Fails, Verdict, Accepted, Refused, verdict, verdict_of, after_verdict}
+use Rattle.event_model.specs.Presence.{History, all_inputs, extended, copies, judge, settles, Says, Fails, Verdict, Accepted, Refused, verdict, verdict_of, after_verdict}
 use Rattle.event_model.specs.declared.inputs.Input.{Input}
 use Rattle.event_model.specs.declared.inputs.Input.TheVariants.{Add, Take, Advance, Nothing, Begin, Commit}
 use Rattle.event_model.specs.declared.inputs.Judgement.{Judgement}
@@ -14,17 +14,19 @@ use Rattle.event_model.specs.declared.inputs.Refusal.{Refusal}
 use Rattle.event_model.specs.declared.inputs.Refusal.TheVariants.{Syntax}
 use Rattle.event_model.specs.declared.events.Detection.{Detection}
 use Rattle.rule_ast.specs.Trees.{PlainStatement}
-use Rattle.pattern_meaning.specs.Replies.{Change, Refusing, reply, reply_to_input, change_text, change_texts, both_texts}
+use Rattle.pattern_meaning.specs.Replies.{Change, Silent, Refusing, Changing, change_by, says_nothing, reply, reply_to_input, change_text, change_texts, both_texts}
 use Rattle.event_changes.specs.Told.{PlainChanged, signed}
 use Rattle.event_changes.specs.declared.changes.Sign.TheVariants.{Plus, Minus}
 use Rattle.detect_writer.specs.Signs.{sign_byte}
 use Rattle.event_reader.specs.Machine.{heard}
 use Rattle.etalis_core.specs.Kept.{HasRoom}
-use Rattle.etalis_core.specs.StandsFor.{StandsFor, CanBegin, can_begin, late_of}
+use Rattle.etalis_core.specs.StandsFor.{StandsFor, WorksFrom, CanBegin, can_begin, late_of, is_working, visits_by}
 use Rattle.etalis_core.specs.declared.present.TheConstants.{MOST_COPIES}
 use Rattle.etalis_core.specs.declared.engine.Engine.{Engine}
 use Rattle.etalis_core.proofs.HistoryLaws.{copies_few}
-use Rattle.etalis_cli.specs.Replying.{refusal_of, reply_by}
+use Rattle.revision.specs.Holding.{counted as capped}
+use Rattle.etalis_cli.specs.Output.{visits_told, visits_in}
+use Rattle.etalis_cli.specs.Replying.{refusal_of, reply_by, HasVisits}
 use Rattle.etalis_cli.specs.declared.replying.Answer.{Answer}
 
 -- ---- how a judgement refuses
@@ -70,6 +72,60 @@ pub accepted_answer : (rules : List PlainStatement) (h : History) (v : Verdict) 
     → IfOk r (λ answer. (n : ℕ) → reply_by n answer c ≡ reply_to_input rules h n input) → IfOk r (λ answer. (n : ℕ) → reply_by n answer c ≡ reply rules h n v)
 accepted_answer rules h v input e c (Ok answer) p = λ n. p n ∙ accepted_reply rules h n v input e
 accepted_answer rules h v input e c (Err fault) p = tt
+
+-- and so are its visits
+pub accepted_visits : (rules : List PlainStatement) (late : Option ℕ) (h : History) (v : Verdict) (input : Input) → v ≡ Accepted input → (made : ℕ) {E : Type 0} (r : Result Answer E)
+    → IfOk r (λ answer. HasVisits answer made (visits_told rules late h input)) → IfOk r (λ answer. HasVisits answer made (visits_in rules late h v))
+accepted_visits rules late h v input e made (Ok answer) p = subst (λ w. HasVisits answer made (visits_in rules late h w)) (sym e) p
+accepted_visits rules late h v input e made (Err fault) p = tt
+
+-- ---- what an input that is accepted comes to
+
+-- an engine that was begun works exactly where the input settles something
+pub settles_where : (engine : Engine) (h : History) (input : Input) (b : Bool) → (settles h input ≡ true → (left : ℕ) × WorksFrom engine h input left)
+    → (settles h input ≡ false → StandsFor engine (extended h input)) → is_working engine ≡ b → settles h input ≡ b
+settles_where engine h input b works stands is = at (settles h input) refl
+  where
+    at : (t : Bool) → settles h input ≡ t → settles h input ≡ b
+    at true e = e ∙ sym (works e).1.is_begun ∙ is
+    at false e = e ∙ sym (stands e).not_working ∙ is
+
+pub not_true : (b : Bool) → not b ≡ true → b ≡ false
+not_true true e = sym e
+not_true false e = refl
+
+pub not_false : (b : Bool) → not b ≡ false → b ≡ true
+not_false true e = refl
+not_false false e = sym e
+
+not_told : (a b : Bool) → (not a || b) ≡ true → (a && not b) ≡ false
+not_told true true e = refl
+not_told true false e = sym e
+not_told false b e = refl
+
+told_so : (a b : Bool) → (not a || b) ≡ false → (a && not b) ≡ true
+told_so true true e = sym e
+told_so true false e = refl
+told_so false b e = sym e
+
+pub first_so : (a b : Bool) → (not a || b) ≡ false → a ≡ true
+first_so true b e = refl
+first_so false b e = sym e
+
+module _ (rules : List PlainStatement) (late : Option ℕ) (h : History) (input : Input) (settled silent : Bool) (s : settled ≡ settles h input)
+    (q : silent ≡ says_nothing input) where
+  pub silent_reply : (not settled || silent) ≡ true → (n : ℕ) → Silent ≡ reply_to_input rules h n input
+  silent_reply e n =
+      sym (ap (λ t. if t then Changing n (change_by rules h input) else Silent) ((λ i. sym s i && not (sym q i)) ∙ not_told settled silent e))
+
+  pub told_reply : (not settled || silent) ≡ false → (c : Change) → c ≡ change_by rules h input → (n : ℕ) → Changing n c ≡ reply_to_input rules h n input
+  told_reply e c is n =
+      ap (Changing n) is
+      ∙ sym (ap (λ t. if t then Changing n (change_by rules h input) else Silent) ((λ i. sym s i && not (sym q i)) ∙ told_so settled silent e))
+
+  pub told_visits : (not settled || silent) ≡ false → (made : ℕ) → made ≡ capped (visits_by rules late h input) → made ≡ capped (visits_told rules late h input)
+  told_visits e made is =
+      is ∙ sym (ap (λ t. capped (if t then visits_by rules late h input else 0)) ((λ i. sym s i && not (sym q i)) ∙ told_so settled silent e))
 
 -- ---- what may begin
 

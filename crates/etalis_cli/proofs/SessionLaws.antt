@@ -11,7 +11,7 @@ use Rattle.event_reader.specs.Machine.{heard}
 use Rattle.event_reader.proofs.LineLaws.{heard_short}
 use Rattle.etalis_core.specs.StandsFor as core
 use Rattle.etalis_core.specs.StandsFor.{rules_of, late_of}
-use Rattle.etalis_cli.specs.Output.{Talk, voiced, counted, after_line, reply_to, tally_after}
+use Rattle.etalis_cli.specs.Output.{Talk, voiced, counted, visits_in, after_line, reply_to, tally_after}
 use Rattle.etalis_cli.specs.StandsFor.{IsWithin, StandsFor}
 use Rattle.etalis_cli.specs.declared.voices.Tally.{Tally}
 use Rattle.etalis_cli.specs.declared.session.Session.{Session}
@@ -27,11 +27,15 @@ unfolding reply_to
 told a t line p =
     λ i. voiced (sym p.same_voice i) (reply (sym p.same_rules i) t.state.history (sym p.same_count i + 1) (verdict (sym p.same_late i) t.state.history (heard line)))
 
+abbrev pub visits_of : Session → Talk → List ℕ → ℕ
+visits_of a t line = visits_in (rules_of a.engine) (late_of a.engine) t.state.history (verdict (late_of a.engine) t.state.history (heard line))
+
 -- what is counted of it
-pub tallied : (a : Session) (t : Talk) (line : List ℕ) → StandsFor a t → counted a.voice a.tally (reply_in a t line) ≡ tally_after t line
+pub tallied : (a : Session) (t : Talk) (line : List ℕ) → StandsFor a t → counted a.voice a.tally (reply_in a t line) (visits_of a t line) ≡ tally_after t line
 unfolding tally_after
 tallied a t line p =
     λ i. counted (sym p.same_voice i) (sym p.same_tally i) (reply (sym p.same_rules i) t.state.history (sym p.same_count i + 1) (verdict (sym p.same_late i) t.state.history (heard line)))
+    (visits_in (sym p.same_rules i) (sym p.same_late i) t.state.history (verdict (sym p.same_late i) t.state.history (heard line)))
 
 -- one line more
 within_after : (old new : Tally) (n : ℕ) → IsWithin old n → new.told ≤ old.told + 2 ^ 64 → new.withdrawn ≤ old.withdrawn + 2 ^ 64 → IsWithin new (n + 1)

@@ -8,7 +8,8 @@ use Rattle.rule_ast.specs.Trees.{PlainStatement}
 use Rattle.pattern_meaning.specs.Replies as told
 use Rattle.pattern_meaning.specs.Replies.{Reply, Silent, Refusing, Changing, after_all, left_of, replies_to, reply_text, change_texts, end_text, drill_text, standing_after}
 use Rattle.event_reader.specs.Machine.{heard}
-use Rattle.etalis_cli.specs.Output.{Setting, start, after, refusal_in, out_text}
+use Rattle.revision.specs.Holding.{counted as capped}
+use Rattle.etalis_cli.specs.Output.{Setting, start, after, refusal_in, visits_to, out_text}
 use Rattle.etalis_cli.specs.declared.voices.Voice.TheVariants.{Replies, Refusals, Counts}
 
 -- the text of a reply for each line, and the end: how many lines came, and whether a batch is open behind them
@@ -40,12 +41,13 @@ withdrawn_in Silent = 0
 withdrawn_in (Refusing n why) = 0
 withdrawn_in (Changing n c) = length c.gone
 
--- how many detections the replies tell and withdraw
+-- how many detections the replies tell and withdraw, and how many visits are made for them, up to 2^128 - 1
 abbrev pub IsDrilled : List PlainStatement → Option ℕ → List ℕ → Type 0
 IsDrilled rules late bytes =
     let replies = replies_to (told.start rules late) (map heard (lines_of bytes)) in
     out_text (record { rules = rules; late = late; voice = Counts }) bytes
-    ≡ drill_text (sum_by told_in replies) (sum_by withdrawn_in replies) 0 0
+    ≡ drill_text (sum_by told_in replies) (sum_by withdrawn_in replies)
+    (capped (visits_to (told.start rules late) (map heard (lines_of bytes)))) 0
 
 -- the replies to the first lines are the first replies
 abbrev pub FirstReplies : Setting → ℕ → List (List ℕ) → Type 0

@@ -1,14 +1,17 @@
 -- What is written for an input: what lines come to, the reply to a line, and the end.
-use Rattle.std.specs.Prelude.{◌≡◌, refl, ℕ, ◌+◌, Option, List, [], ◌∷◌, ◌++◌, length, map}
+use Rattle.std.specs.Prelude.{◌≡◌, refl, ℕ, ◌+◌, if◌then◌else◌, Option, List, [], ◌∷◌, ◌++◌, length, map}
 use Rattle.std.specs.List.{flat_map}
 use Rattle.std.proofs.Common.{ap}
 use Rattle.event_model.specs.Bytes.{plus}
 use Rattle.event_model.specs.Lines.{lines_of}
-use Rattle.event_model.specs.Presence.{in_batch}
+use Rattle.event_model.specs.Presence.{History, Said, Verdict, Accepted, Refused, verdict, in_batch}
+use Rattle.event_model.specs.declared.inputs.Input.{Input}
 use Rattle.rule_ast.specs.Trees.{PlainStatement}
 use Rattle.pattern_meaning.specs.Replies as told
-use Rattle.pattern_meaning.specs.Replies.{State, Reply, Silent, Refusing, Changing, after_said, after_all, reply_to_said, replies_to, reply_text, refusal_text, change_texts, end_text, drill_text, standing_after}
+use Rattle.pattern_meaning.specs.Replies.{State, Reply, Silent, Refusing, Changing, is_told, after_said, after_all, reply_to_said, replies_to, reply_text, refusal_text, change_texts, end_text, drill_text, standing_after}
 use Rattle.event_reader.specs.Machine.{heard}
+use Rattle.revision.specs.Holding.{counted as capped}
+use Rattle.etalis_core.specs.StandsFor.{visits_by}
 use Rattle.etalis_cli.specs.declared.voices.Voice.{Voice}
 use Rattle.etalis_cli.specs.declared.voices.Voice.TheVariants.{Replies, Refusals, Counts}
 use Rattle.etalis_cli.specs.declared.voices.Tally.{Tally}
@@ -32,21 +35,45 @@ voiced Replies reply = reply_text reply
 voiced Refusals reply = refusal_in reply
 voiced Counts reply = []
 
+-- ---- visits
+
+-- how many visits of rows are made for an accepted input whose change is told
+abbrev pub visits_told : List PlainStatement → Option ℕ → History → Input → ℕ
+visits_told rules late h input = if is_told h input then visits_by rules late h input else 0
+
+-- those for a line that is judged so
+abbrev pub visits_in : List PlainStatement → Option ℕ → History → Verdict → ℕ
+visits_in rules late h (Accepted input) = visits_told rules late h input
+visits_in rules late h (Refused why) = 0
+
+-- those for a line that says so
+abbrev pub visits_said : State → Said → ℕ
+visits_said s said = visits_in s.rules s.late s.history (verdict s.late s.history said)
+
+-- those for all lines
+abbrev pub visits_to : State → List Said → ℕ
+visits_to s [] = 0
+visits_to s (said ∷ more) = visits_said s said + visits_to (after_said s said) more
+
 -- ---- what is counted of the answers
 
 abbrev pub no_tally : Tally
-no_tally = record { told = 0; withdrawn = 0 }
+no_tally = record { told = 0; withdrawn = 0; visits = 0 }
 
--- the detections that a reply tells, and those that it withdraws
-abbrev pub tallied : Tally → Reply → Tally
-tallied tally Silent = tally
-tallied tally (Refusing n why) = tally
-tallied tally (Changing n c) = record { told = tally.told + length c.come; withdrawn = tally.withdrawn + length c.gone }
+-- the detections that a reply tells, those that it withdraws, and the visits that were made for it
+abbrev pub tallied : Tally → Reply → ℕ → Tally
+tallied tally Silent visits = tally
+tallied tally (Refusing n why) visits = tally
+tallied tally (Changing n c) visits = record {
+  told = tally.told + length c.come;
+  withdrawn = tally.withdrawn + length c.gone;
+  visits = capped (tally.visits + visits);
+}
 
-abbrev pub counted : Voice → Tally → Reply → Tally
-counted Replies tally reply = tally
-counted Refusals tally reply = tally
-counted Counts tally reply = tallied tally reply
+abbrev pub counted : Voice → Tally → Reply → ℕ → Tally
+counted Replies tally reply visits = tally
+counted Refusals tally reply visits = tally
+counted Counts tally reply visits = tallied tally reply visits
 
 -- ---- from line to line
 
@@ -64,17 +91,17 @@ unfoldable pub reply_to : Talk → List ℕ → List ℕ
 reply_to t line = voiced t.voice (reply_to_said t.state (heard line))
 
 unfoldable pub tally_after : Talk → List ℕ → Tally
-tally_after t line = counted t.voice t.tally (reply_to_said t.state (heard line))
+tally_after t line = counted t.voice t.tally (reply_to_said t.state (heard line)) (visits_said t.state (heard line))
 
 abbrev pub after_line : Talk → List ℕ → Talk
 after_line t line = record { state = after_said t.state (heard line); voice = t.voice; tally = tally_after t line }
 
--- What is written behind the answers to all lines: the end; or what stands, and the end; or the counts of a drill, of which those of
--- visits and of rows are none so far.
+-- What is written behind the answers to all lines: the end; or what stands, and the end; or the counts of a drill, of which that of
+-- rows is none so far.
 abbrev pub closing_in : Voice → State → Tally → List ℕ
 closing_in Replies s tally = end_text s.count (in_batch s.history)
 closing_in Refusals s tally = change_texts plus (standing_after s.rules s.history) ++ end_text s.count (in_batch s.history)
-closing_in Counts s tally = drill_text tally.told tally.withdrawn 0 0
+closing_in Counts s tally = drill_text tally.told tally.withdrawn tally.visits 0
 
 abbrev pub closing : Talk → List ℕ
 closing t = closing_in t.voice t.state t.tally

@@ -1,10 +1,11 @@
 -- What is refused, and the replies by what lines have come to.
-use Rattle.std.specs.Prelude.{ℕ, Option, Some, None}
+use Rattle.std.specs.Prelude.{ℕ, ◌≡◌, Option, Some, None}
 use Rattle.event_model.specs.declared.inputs.Judgement.{Judgement}
 use Rattle.event_model.specs.declared.inputs.Judgement.TheVariants as judgement
 use Rattle.event_model.specs.declared.inputs.Refusal.{Refusal}
 use Rattle.event_model.specs.declared.inputs.Refusal.TheVariants as refusal
 use Rattle.pattern_meaning.specs.Replies.{Change, Reply, Silent, Refusing, Changing}
+use Rattle.revision.specs.Holding.{counted as capped}
 use Rattle.etalis_cli.specs.declared.replying.Answer.{Answer}
 use Rattle.etalis_cli.specs.declared.replying.Answer.TheVariants as answer
 
@@ -19,3 +20,9 @@ abbrev pub reply_by : ℕ → Answer → Change → Reply
 reply_by n answer.Silent c = Silent
 reply_by n (answer.Refused why) c = Refusing n why
 reply_by n answer.Changed c = Changing n c
+
+-- where a change is told, the engine made so many visits for it, as far as they are counted
+abbrev pub HasVisits : Answer → (made visits : ℕ) → Type 0
+HasVisits answer.Silent made visits = Unit {0}
+HasVisits (answer.Refused why) made visits = Unit {0}
+HasVisits answer.Changed made visits = made ≡ capped visits

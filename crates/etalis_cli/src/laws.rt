@@ -6,7 +6,7 @@ ghost use Rattle.etalis_cli.specs.Output.{Setting};
 
 /// What is written for an input is the text of a reply for each of its lines, and the end. Where only refusals are told it is these, and
 /// what stands behind the last line, and the end; and where answers are counted it is how many detections the replies tell and
-/// withdraw. The replies to the first lines of an input are the first replies. What these leave, each taking its detections away and
+/// withdraw, and how many visits of rows are made for them. The replies to the first lines of an input are the first replies. What these leave, each taking its detections away and
 /// adding its own, is what stands after these lines: over the events that are present, but for those of an open batch.
 pub fn what_is_written_stands()
     ensures written { (rules : List PlainStatement) (late : Option ℕ) (bytes : List ℕ) → IsWritten rules late bytes }

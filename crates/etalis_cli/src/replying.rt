@@ -6,9 +6,11 @@ ghost use Rattle.event_model.specs.declared.inputs.TheConstants.{MOST_LINE_BYTES
 ghost use Rattle.line_reader.specs.Cutting.{IsLine};
 ghost use Rattle.pattern_meaning.specs.Replies.{change_by, says_nothing, reply, reply_to_input};
 ghost use Rattle.event_reader.specs.Machine.{heard};
-ghost use Rattle.etalis_core.specs.StandsFor.{StandsFor, WorksFrom, CanBegin, rules_of, late_of, last_change, is_working, is_spent};
+ghost use Rattle.etalis_core.specs.StandsFor.{StandsFor, WorksFrom, CanBegin, rules_of, late_of, last_change, visits_of, visits_by, is_working, is_spent};
 ghost use Rattle.etalis_core.specs.declared.present.TheConstants.{MOST_COPIES};
-ghost use Rattle.etalis_cli.specs.Replying.{refusal_of, reply_by};
+ghost use Rattle.revision.specs.Holding.{counted as capped};
+ghost use Rattle.etalis_cli.specs.Output.{visits_told, visits_in};
+ghost use Rattle.etalis_cli.specs.Replying.{refusal_of, reply_by, HasVisits};
 
 use etalis_core::Engine;
 use event_changes::Progress;
@@ -55,10 +57,12 @@ fn says_nothing(input: &Input) -> bool
 // Has the engine work until the input that was begun is done.
 fn finish(engine: &mut Engine) -> Result<(), AllocError>
     requires { is_working engine.old ≡ true }
-    ensures stands { (h : History) (input : Input) → WorksFrom engine.old h input
+    ensures stands { (h : History) (input : Input) (left : ℕ) → WorksFrom engine.old h input left
         → OnOk result (StandsFor engine.new (extended h input)) }
-    ensures change { (h : History) (input : Input) → WorksFrom engine.old h input
+    ensures change { (h : History) (input : Input) (left : ℕ) → WorksFrom engine.old h input left
         → OnOk result (last_change engine.new ≡ change_by (rules_of engine.old) h input) }
+    ensures visits { (h : History) (input : Input) (left : ℕ) → WorksFrom engine.old h input left
+        → OnOk result (visits_of engine.new ≡ capped (visits_by (rules_of engine.old) (late_of engine.old) h input)) }
     ensures resting { OnOk result (is_working engine.new ≡ false) }
     ensures unspent { OnOk result (is_spent engine.new ≡ false) }
     ensures rules { OnOk result (rules_of engine.new ≡ rules_of engine.old) }
@@ -80,6 +84,8 @@ fn accept(engine: &mut Engine, input: Input) -> Result<bool, AllocError>
     ensures stands { (h : History) → StandsFor engine.old h → OnOk result (StandsFor engine.new (extended h input)) }
     ensures change { (h : History) → StandsFor engine.old h → settles h input ≡ true
         → OnOk result (last_change engine.new ≡ change_by (rules_of engine.old) h input) }
+    ensures visits { (h : History) → StandsFor engine.old h → settles h input ≡ true
+        → OnOk result (visits_of engine.new ≡ capped (visits_by (rules_of engine.old) (late_of engine.old) h input)) }
     ensures resting { OnOk result (is_working engine.new ≡ false) }
     ensures unspent { OnOk result (is_spent engine.new ≡ false) }
     ensures rules { OnOk result (rules_of engine.new ≡ rules_of engine.old) }
@@ -102,6 +108,8 @@ fn take_input(engine: &mut Engine, input: Input) -> Result<Answer, AllocError>
     ensures stands { (h : History) → StandsFor engine.old h → OnOk result (StandsFor engine.new (extended h input)) }
     ensures reply { (h : History) → StandsFor engine.old h → IfOk result (λ answer. (n : ℕ)
         → reply_by n answer (last_change engine.new) ≡ reply_to_input (rules_of engine.old) h n input) }
+    ensures visits { (h : History) → StandsFor engine.old h → IfOk result (λ answer.
+        HasVisits answer (visits_of engine.new) (visits_told (rules_of engine.old) (late_of engine.old) h input)) }
     ensures resting { OnOk result (is_working engine.new ≡ false) }
     ensures unspent { OnOk result (is_spent engine.new ≡ false) }
     ensures rules { OnOk result (rules_of engine.new ≡ rules_of engine.old) }
@@ -124,6 +132,8 @@ fn take_short(alloc: Global, engine: &mut Engine, line: &[u8]) -> Result<Answer,
     ensures reply { (h : History) → StandsFor engine.old h → let judged = verdict (late_of engine.old) h (heard line.now) in
         IfOk result (λ answer. (n : ℕ)
         → reply_by n answer (last_change engine.new) ≡ reply (rules_of engine.old) h n judged) }
+    ensures visits { (h : History) → StandsFor engine.old h → let judged = verdict (late_of engine.old) h (heard line.now) in
+        IfOk result (λ answer. HasVisits answer (visits_of engine.new) (visits_in (rules_of engine.old) (late_of engine.old) h judged)) }
     ensures resting { OnOk result (is_working engine.new ≡ false) }
     ensures unspent { OnOk result (is_spent engine.new ≡ false) }
     ensures rules { OnOk result (rules_of engine.new ≡ rules_of engine.old) }
@@ -151,6 +161,9 @@ pub fn take_line(alloc: Global, engine: &mut Engine, line: Line<'_>) -> Result<A
         → let judged = verdict (late_of engine.old) h (heard (without_cr raw)) in
         IfOk result (λ answer. (n : ℕ)
         → reply_by n answer (last_change engine.new) ≡ reply (rules_of engine.old) h n judged) }
+    ensures visits { (h : History) (raw : List ℕ) → StandsFor engine.old h → IsLine line.entry raw
+        → let judged = verdict (late_of engine.old) h (heard (without_cr raw)) in
+        IfOk result (λ answer. HasVisits answer (visits_of engine.new) (visits_in (rules_of engine.old) (late_of engine.old) h judged)) }
     ensures resting { OnOk result (is_working engine.new ≡ false) }
     ensures unspent { OnOk result (is_spent engine.new ≡ false) }
     ensures rules { OnOk result (rules_of engine.new ≡ rules_of engine.old) }

@@ -42,6 +42,7 @@ impl Session {
             tally: Tally {
                 told: 0,
                 withdrawn: 0,
+                visits: 0,
             },
             count: 0,
         }
@@ -73,10 +74,18 @@ impl Session {
         match self.voice {
             Voice::Replies => end_text(self.count, self.engine.in_batch(), out),
             Voice::Refusals => {
-                push_standing(self.engine.standing(), out)?;
+                push_standing(&self.engine.standing(self.alloc)?, out)?;
                 end_text(self.count, self.engine.in_batch(), out)
             }
-            Voice::Counts => drill_text(self.tally.told, self.tally.withdrawn, 0, 0, out),
+            Voice::Counts => {
+                drill_text(
+                    self.tally.told,
+                    self.tally.withdrawn,
+                    self.tally.visits,
+                    0,
+                    out,
+                )
+            },
         }
     }
 }

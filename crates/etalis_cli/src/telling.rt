@@ -2,9 +2,9 @@
 ghost use Rattle.std.specs.Prelude.{◌≡◌, ◌++◌, ◌+◌, ◌<◌, ◌≤◌, ◌^◌, ℕ, false, OnOk};
 ghost use Rattle.event_model.specs.Bytes.{plus};
 ghost use Rattle.pattern_meaning.specs.Replies.{both_texts, change_texts, reply_text};
-ghost use Rattle.etalis_core.specs.StandsFor.{is_working, is_spent, last_change};
+ghost use Rattle.etalis_core.specs.StandsFor.{is_working, is_spent, last_change, visits_of};
 ghost use Rattle.etalis_cli.specs.Output.{voiced, counted};
-ghost use Rattle.etalis_cli.specs.Replying.{reply_by};
+ghost use Rattle.etalis_cli.specs.Replying.{reply_by, HasVisits};
 
 use crate::replying::Answer;
 use crate::voices::{Tally, Voice};
@@ -76,7 +76,8 @@ pub fn count_answer(engine: &Engine, voice: Voice, answer: Answer, tally: Tally)
     requires unspent { is_spent engine.now ≡ false }
     requires few_told { tally.told < 2 ^ 127 }
     requires few_withdrawn { tally.withdrawn < 2 ^ 127 }
-    ensures counts { (n : ℕ) → result ≡ counted voice tally (reply_by n answer (last_change engine.now)) }
+    ensures counts { (n visits : ℕ) → HasVisits answer (visits_of engine.now) visits
+        → result ≡ counted voice tally (reply_by n answer (last_change engine.now)) visits }
     ensures more_told { result.told ≤ tally.told + 2 ^ 64 }
     ensures more_withdrawn { result.withdrawn ≤ tally.withdrawn + 2 ^ 64 }
 {
@@ -87,6 +88,7 @@ pub fn count_answer(engine: &Engine, voice: Voice, answer: Answer, tally: Tally)
             Answer::Changed => Tally {
                 told: tally.told + engine.come().len() as u128,
                 withdrawn: tally.withdrawn + engine.gone().len() as u128,
+                visits: tally.visits.saturating_add(engine.visits()),
             },
         },
     }

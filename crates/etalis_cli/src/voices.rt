@@ -7,13 +7,15 @@ pub enum Voice {
     Replies,
     /// A line that is refused by its refusal; behind the last line stands what stands then, and the end.
     Refusals,
-    /// No line; behind the last one stands how many detections were told and withdrawn.
+    /// No line; behind the last one stands how many detections were told and withdrawn, and how many visits of rows that took.
     Counts,
 }
 
-/// How many detections were told and withdrawn.
+/// How many detections were told and withdrawn, and how many visits of rows were made.
 #[derive(Clone, Copy, Debug, PartialEq, Eq)]
 pub struct Tally {
     pub told: u128,
     pub withdrawn: u128,
+    /// It stays at 2^128 - 1 once it is there.
+    pub visits: u128,
 }

@@ -1,5 +1,4 @@
 pub mod HistoryLaws
 pub mod PresentLaws
 pub mod LedgerLaws
-pub mod TableLaws
 pub mod EngineLaws

@@ -1,5 +1,5 @@
 -- Copies and changes of events, after a copy came or went.
-use Rattle.std.proofs.Common.{◌≡◌, ℕ, ◌+◌, ◌-◌, ◌<◌, zero, suc, Bool, true, false, not, cond, Option, Some, None, List, [], ◌∷◌, OnOk, OnErr, Result, Ok, Err, refl, sym, ap, ◌∙◌, subst, arith, unwrap_or, is_some}
+use Rattle.std.proofs.Common.{◌≡◌, ℕ, ◌+◌, ◌-◌, ◌<◌, ◌==◌, ◌&&◌, ◌||◌, ◌++◌, zero, suc, Bool, true, false, not, cond, Option, Some, None, List, [], ◌∷◌, OnOk, OnErr, Result, Ok, Err, refl, sym, ap, ◌∙◌, subst, arith, unwrap_or, is_some}
 use Rattle.std.specs.Prelude.{nat_lt, if◌then◌else◌}
 use Rattle.std.specs.BTreeMap.{BTreeMap, get, keys, IsOrdered}
 use Rattle.std.specs.Option.{IfSome}
@@ -8,7 +8,7 @@ use Rattle.std.specs.declared.cmp.Ordering.{Ordering}
 use Rattle.std.specs.declared.cmp.Ordering.TheVariants.{Less, Equal, Greater}
 use Rattle.std.proofs.lemmas.Bool.{true≢false}
 use Rattle.std.proofs.lemmas.Bool.Decides.{nat_tests}
-use Rattle.ordered_lists.specs.Canon.{has, canon_one}
+use Rattle.ordered_lists.specs.Canon.{has, Rising, has-append, canon_one}
 use Rattle.ordered_lists.specs.Rises.{rising_sorted}
 use Rattle.event_model.specs.declared.events.Event.{Event}
 use Rattle.event_model.specs.EventOrder.{event_cmp, exact_events}
@@ -189,3 +189,63 @@ module _ {A E : Type 0} (r : Result A E) (input : Input) (event e : Event) (new 
     where
       more : (n : ℕ) → n ≡ n + 0
       more n = omega arith
+
+-- ---- the events that were present
+
+-- one more of a set
+pub put_in : (b c : Bool) → cond b true c ≡ (c || (true && b))
+put_in true true = refl
+put_in true false = refl
+put_in false true = refl
+put_in false false = refl
+
+pub not_put : (b c : Bool) → c ≡ (c || (false && b))
+not_put b true = refl
+not_put b false = refl
+
+-- those of a list that pass a test, and one more where it does
+pub passed_more : (p : Event → Bool) (ys : List Event) (k e : Event)
+    → ((has event_cmp e ys && p e) || (p k && is_eq (event_cmp k e))) ≡ (has event_cmp e (ys ++ k ∷ []) && p e)
+passed_more p ys k e =
+    (λ i. (has event_cmp e ys && p e) || (p k && ties_back k e i)) ∙ at (is_eq (event_cmp e k)) refl
+    ∙ sym (ap (λ b. b && p e) (has-append exact_events e ys (k ∷ [])))
+  where
+    same : (h q : Bool) → ((h && q) || (q && true)) ≡ ((h || (true || false)) && q)
+    same true true = refl
+    same true false = refl
+    same false true = refl
+    same false false = refl
+
+    other : (h q r : Bool) → ((h && q) || (r && false)) ≡ ((h || (false || false)) && q)
+    other true true true = refl
+    other true true false = refl
+    other true false true = refl
+    other true false false = refl
+    other false q true = refl
+    other false q false = refl
+
+    at : (b : Bool) → is_eq (event_cmp e k) ≡ b → ((has event_cmp e ys && p e) || (p k && b)) ≡ ((has event_cmp e ys || (b || false)) && p e)
+    at true t = ap (λ x. (has event_cmp e ys && p e) || (p x && true)) (sym (ties e k t)) ∙ same (has event_cmp e ys) (p e)
+    at false t = other (has event_cmp e ys) (p e) (p k)
+
+-- what was kept is what is kept and hasn't changed, and what has changed and isn't kept
+pub was_either : (kept changed : Bool) → ((kept && not changed) || (changed && not kept)) ≡ (if changed then not kept else kept)
+was_either true true = refl
+was_either true false = refl
+was_either false true = refl
+was_either false false = refl
+
+-- the same with one more that has changed
+pub either_more : (first : Bool) (p : Event → Bool) (ys : List Event) (k e : Event)
+    → ((first || (has event_cmp e ys && p e)) || (p k && is_eq (event_cmp k e))) ≡ (first || (has event_cmp e (ys ++ k ∷ []) && p e))
+either_more true p ys k e = refl
+either_more false p ys k e = passed_more p ys k e
+
+-- a number that isn't above 0 is 0
+pub is_none : (n : ℕ) → (n == 0) ≡ not (nat_lt 0 n)
+is_none n = grind (arith, nat_tests)
+
+-- a list of the events that were present, in order
+pub present_told : (keys : List Event) (told : List Input) → Rising event_cmp keys → ((e : Event) → has event_cmp e keys ≡ has event_cmp e (present told))
+    → keys ≡ present told
+present_told keys told rises same = canon_one exact_events keys (present told) rises (rising-present told) same

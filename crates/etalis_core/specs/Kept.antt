@@ -33,9 +33,13 @@ is_kept kept e = nat_lt 0 (number_of kept e)
 abbrev pub was_kept : Present → Event → Bool
 was_kept kept e = if has event_cmp e kept.changed.keys then not (is_kept kept e) else is_kept kept e
 
--- the net changes since then: an event that has changed came where a copy is kept, and went where none is
+-- an event that has changed since then came where a copy is kept, and went where none is
+abbrev pub net_change : Present → Event → EventChange
+net_change kept e = if is_kept kept e then Came e else Went e
+
+-- the net changes since then
 abbrev pub net_changes : Present → List EventChange
-net_changes kept = map (λ e. if is_kept kept e then Came e else Went e) kept.changed.keys
+net_changes kept = map (net_change kept) kept.changed.keys
 
 -- room for one copy more of the event of an `Add`
 abbrev pub HasRoom : (Event → ℕ) → Input → Type 0

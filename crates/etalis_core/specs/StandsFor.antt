@@ -1,16 +1,25 @@
 -- What an engine stands for and works from: it keeps what a history comes to, and not the history.
-use Rattle.std.specs.Prelude.{◌≡◌, ℕ, Bool, true, false, Option, List}
-use Rattle.event_model.specs.Presence.{History, settled, all_inputs, settles, extended, copies, present, judge, IsAccepted}
+use Rattle.std.specs.Prelude.{◌≡◌, ℕ, Bool, true, false, not, ◌&&◌, Option, None, List, map, get_or}
+use Rattle.std.specs.List.{flat_map}
+use Rattle.event_model.specs.Presence.{History, added, settled, all_inputs, settles, extended, copies, present, judge, IsAccepted}
 use Rattle.event_model.specs.declared.inputs.Input.{Input}
 use Rattle.event_model.specs.declared.inputs.Judgement.TheVariants.{Fine}
 use Rattle.rule_ast.specs.Trees.{PlainStatement}
 use Rattle.rule_ast.specs.Plain.{plain_rules}
-use Rattle.pattern_meaning.specs.Standing.{standing}
+use Rattle.rule_check.specs.Cycles.{IsRanking, rank_of}
+use Rattle.rule_check.specs.Sound as sound
 use Rattle.pattern_meaning.specs.Replies.{Change}
+use Rattle.step_meaning.specs.PlanOf.{plan_of, plan_steps}
+use Rattle.row_changes.specs.declared.caps.CapList.{CapList}
+use Rattle.row_changes.specs.declared.caps.Reach.TheVariants.{Free}
+use Rattle.change_meaning.specs.Caps.{PlainCaps, caps_in}
+use Rattle.change_meaning.specs.Moved.{AreSpans}
+use Rattle.horizon_meaning.specs.Caps.{AreCaps, holds}
+use Rattle.revision.specs.Holding.{visits_to}
+use Rattle.revision.specs.Working as work
+use Rattle.revision.specs.Working.{plan_of_work, caps_of, WorkHolds, WorkGoes}
+use Rattle.revision.specs.declared.work.Work.{Work}
 use Rattle.etalis_core.specs.Kept.{HasRoom, IsLedgerOf}
-use Rattle.etalis_core.specs.declared.table.Table.{Table}
-use Rattle.etalis_core.specs.declared.engine.State.{State}
-use Rattle.etalis_core.specs.declared.engine.State.TheVariants.{Resting, Working, Spent}
 use Rattle.etalis_core.specs.declared.engine.Engine.{Engine}
 
 -- ---- what an engine shows
@@ -23,78 +32,90 @@ rules_of engine = plain_rules engine.rules
 abbrev pub late_of : Engine → Option ℕ
 late_of engine = engine.late
 
-abbrev pub is_working_state : State → Bool
-is_working_state Resting = false
-is_working_state Working = true
-is_working_state Spent = false
-
-abbrev pub is_spent_state : State → Bool
-is_spent_state Resting = false
-is_spent_state Working = false
-is_spent_state Spent = true
+-- whether a call has found no memory
+abbrev pub is_spent : Engine → Bool
+is_spent engine = engine.spent
 
 -- whether an input was begun that settles what came before it, and isn't done
 abbrev pub is_working : Engine → Bool
-is_working engine = is_working_state engine.state
-
--- whether a call has found no memory
-abbrev pub is_spent : Engine → Bool
-is_spent engine = is_spent_state engine.state
-
-abbrev pub change_of : Table → Change
-change_of table = record { gone = table.gone.items; come = table.come.items }
+is_working engine = not engine.spent && work.is_working engine.work
 
 -- what the last input for which it worked has changed of the detections that stand
 abbrev pub last_change : Engine → Change
-last_change engine = change_of engine.table
+last_change engine = work.change_of engine.work
 
--- how much is to be done until the input is done; one turn does it all, so nothing is counted
+-- how many visits were made for the input for which it worked last, up to 2^128 - 1
+abbrev pub visits_of : Engine → ℕ
+visits_of engine = work.made_of engine.work
+
+-- how much is to be done until the input is done: a number that falls with each turn
 abbrev pub work_left : Engine → ℕ
-work_left engine = 0
+work_left engine = work.work_left engine.work
+
+-- ---- the visits of an input
+
+-- how long the rows of each step of the plan of these rules count
+abbrev pub caps_for : List PlainStatement → PlainCaps
+caps_for rules = record {
+  cap = λ i. get_or (map (λ h. h.cap) (holds (plan_of rules))) i None;
+  reach = λ i. get_or (map (λ h. h.reach) (holds (plan_of rules))) i Free;
+}
+
+-- the bound at which rows are kept: nothing is forgotten so far
+abbrev pub horizon : Option ℕ → History → ℕ
+horizon late h = 0
+
+-- how many visits an input makes after a history, from the events that are present by its groups to those after the input
+abbrev pub visits_by : List PlainStatement → Option ℕ → History → Input → ℕ
+visits_by rules late h input =
+    visits_to (plan_steps rules) (caps_for rules) (horizon late h) (present (settled h)) (present (all_inputs (extended h input)))
 
 -- ---- what it keeps of a history
 
--- the evaluator has what stands over the events that are present after these inputs
-pub record IsTableOf (table : Table) (rules : List PlainStatement) (told : List Input) : Type 0 where
-  pub stands : table.standing.items ≡ standing rules (present told)
+-- the work is that on the plan of these rules, with its caps
+pub record IsWorkOf (w : Work) (rules : List PlainStatement) : Type 0 where
+  pub ranking : IsRanking (sound.rules_of rules) (rank_of (sound.rules_of rules))
+  pub plan : plan_of_work w ≡ plan_of rules
+  pub caps : (list : CapList) × (caps_of w ≡ caps_in list) × AreCaps (plan_of rules) list
 
--- This history is accepted, and all its inputs are done: the ledger is that of the history, and the evaluator has what stands
--- after its groups.
+-- the events of these inputs are on spans of times
+abbrev pub HaveSpans : List Input → Type 0
+HaveSpans inputs = AreSpans (flat_map added inputs)
+
+-- This history is accepted, and all its inputs are done: the ledger is that of the history, and the work holds the events that are
+-- present by its groups.
 pub record StandsFor (engine : Engine) (history : History) : Type 0 where
   pub accepted : IsAccepted (late_of engine) history
+  pub spans : HaveSpans (all_inputs history)
   pub ledger : IsLedgerOf engine.ledger (late_of engine) (settled history) history
-  pub table : IsTableOf engine.table (rules_of engine) (settled history)
+  pub plan : IsWorkOf engine.work (rules_of engine)
+  pub holds : WorkHolds engine.work (horizon (late_of engine) history) (present (settled history))
   pub not_working : is_working engine ≡ false
   pub not_spent : is_spent engine ≡ false
 
--- This history is accepted, and this input, which is fine after it and settles what came before it, is begun: the ledger is
--- that of the history with the input, and the evaluator still has what stands after the groups of the history without it.
-pub record WorksFrom (engine : Engine) (history : History) (input : Input) : Type 0 where
+-- This history is accepted, and this input, which is fine after it and settles what came before it, is begun: the ledger is that of
+-- the history with the input, and the work goes from the events by the groups of the history to those after the input, with so many
+-- visits left.
+pub record WorksFrom (engine : Engine) (history : History) (input : Input) (left : ℕ) : Type 0 where
   pub accepted : IsAccepted (late_of engine) history
   pub fine : judge (late_of engine) history input ≡ Fine
   pub settling : settles history input ≡ true
+  pub spans : HaveSpans (all_inputs (extended history input))
   pub ledger : IsLedgerOf engine.ledger (late_of engine) (settled history) (extended history input)
-  pub table : IsTableOf engine.table (rules_of engine) (settled history)
+  pub plan : IsWorkOf engine.work (rules_of engine)
+  pub goes : WorkGoes engine.work (horizon (late_of engine) history) (present (settled history))
+      (present (all_inputs (extended history input))) left
   pub is_begun : is_working engine ≡ true
   pub not_spent : is_spent engine ≡ false
 
 -- ---- what may be begun
 
--- the ledger is that of this accepted history, no input is begun, the input is fine, and there is room for its event
+-- the engine stands for this history, the input is fine after it, and there is room for its event
 pub record CanBegin (engine : Engine) (history : History) (input : Input) : Type 0 where
-  pub accepted : IsAccepted (late_of engine) history
-  pub ledger : IsLedgerOf engine.ledger (late_of engine) (settled history) history
-  pub resting : is_working engine ≡ false
+  pub stands : StandsFor engine history
   pub fine : judge (late_of engine) history input ≡ Fine
   pub room : HasRoom (copies (all_inputs history)) input
 
--- an engine that stands for a history may begin what is fine after it and has room
 pub can_begin : (engine : Engine) (history : History) (input : Input) → StandsFor engine history
     → judge (late_of engine) history input ≡ Fine → HasRoom (copies (all_inputs history)) input → CanBegin engine history input
-can_begin engine history input s fine room = record {
-  accepted = s.accepted;
-  ledger = s.ledger;
-  resting = s.not_working;
-  fine = fine;
-  room = room;
-}
+can_begin engine history input s fine room = record { stands = s; fine = fine; room = room }

@@ -1,38 +1,14 @@
 // The engine.
 use crate::faults::{EngineFault, StartFault};
 use crate::ledger::Ledger;
-use crate::table::Table;
 use binariser::{PlanFault, binarise};
 use event_changes::{Changes, Progress};
 use event_model::{Detection, Input, Judgement};
-use rule_ast::Plan;
+use goal_purge::lengths;
+use pattern_meaning::scratch;
+use revision::Work;
 use rule_check::Checked;
-use std::alloc::Global;
-
-// Between inputs; with an input that was begun; or out of memory.
-#[derive(Clone, Copy)]
-enum State {
-    Resting,
-    Working,
-    Spent,
-}
-
-impl State {
-    ghost use Rattle.std.specs.Prelude.{◌≡◌, false, not};
-    ghost use Rattle.etalis_core.specs.StandsFor.{is_working_state, is_spent_state};
-
-    // In an open batch there is nothing to work on.
-    fn after_input(in_batch: bool) -> State
-        ensures working { is_working_state result ≡ not in_batch }
-        ensures unspent { is_spent_state result ≡ false }
-    {
-        if in_batch {
-            State::Resting
-        } else {
-            State::Working
-        }
-    }
-}
+use std::alloc::{AllocError, Global};
 
 /// Takes inputs one at a time, each by a `begin` and, where the input settles something, by turns until one is `Done`. It tells
 /// then what changed of the detections that stand. An input outside a batch settles itself, and a `Commit` all of its batch. A
@@ -42,15 +18,14 @@ pub struct Engine {
     alloc: Global,
     rules: Checked,
     late: Option<u64>,
-    // Of these rules. What stands is still found from scratch, without it.
-    plan: Plan,
     ledger: Ledger,
-    table: Table,
-    state: State,
+    work: Work,
+    // Whether a call has found no memory.
+    spent: bool,
 }
 
 impl Engine {
-    ghost use Rattle.std.specs.Prelude.{◌≡◌, ◌⊎◌, ◌↔◌, ◌<◌, ◌≤◌, [], length, true, false, IfSome, IfOk, OnOk, OnErr, IsErrOf};
+    ghost use Rattle.std.specs.Prelude.{ℕ, ◌≡◌, ◌⊎◌, ◌↔◌, ◌+◌, ◌-◌, ◌<◌, ◌≤◌, [], length, true, false, IfSome, IfOk, OnOk, OnErr, IsErrOf};
     ghost use Rattle.event_model.specs.declared.events.TheConstants.{TIME_LIMIT};
     ghost use Rattle.event_model.specs.declared.inputs.Input.{Input};
     ghost use Rattle.event_model.specs.Presence.{History, no_history, settled, in_batch, extended, settles, bound, judge};
@@ -60,7 +35,8 @@ impl Engine {
     ghost use Rattle.binariser.specs.declared.faults.TheConstants.{MOST_STEPS};
     ghost use Rattle.event_changes.specs.Told.{changes_left, signed};
     ghost use Rattle.event_changes.specs.declared.changes.Progress.TheVariants.{More, Done};
-    ghost use Rattle.etalis_core.specs.StandsFor.{rules_of, late_of, is_working, is_spent, last_change, work_left, StandsFor, WorksFrom, CanBegin};
+    ghost use Rattle.revision.specs.Holding.{counted};
+    ghost use Rattle.etalis_core.specs.StandsFor.{rules_of, late_of, is_working, is_spent, last_change, visits_of, visits_by, work_left, StandsFor, WorksFrom, CanBegin};
 
     /// Before the first input. The lateness is how far the time of an event may lie behind the greatest that came; without one
     /// events raise no bound. Rules whose plan has more than 65,536 steps have no engine.
@@ -80,15 +56,17 @@ impl Engine {
             Err(PlanFault::TooMany) => return Err(StartFault::TooMany),
             Err(PlanFault::Memory) => return Err(StartFault::Memory),
         };
-        let table = Table::new(alloc, &checked, &[])?;
+        // Rules that are checked are shaped and sound, so there is a way to work with their plan.
+        let _rules = checked.rules();
+        let caps = lengths(alloc, &checked, &plan)?;
+        let work = Work::new(alloc, plan, caps)?;
         Ok(Engine {
             alloc,
             rules: checked,
             late,
-            plan,
             ledger: Ledger::new(alloc),
-            table,
-            state: State::Resting,
+            work,
+            spent: false,
         })
     }
 
@@ -109,7 +87,7 @@ impl Engine {
     /// Below which time no event and no `Advance` comes any more. An open batch doesn't raise it before its `Commit` is done.
     pub fn bound(&self) -> u64
         ensures stands { (history : History) → StandsFor self.now history → result ≡ bound (late_of self.now) (settled history) }
-        ensures works { (history : History) (input : Input) → WorksFrom self.now history input
+        ensures works { (history : History) (input : Input) (left : ℕ) → WorksFrom self.now history input left
             → result ≡ bound (late_of self.now) (settled history) }
     {
         self.ledger.bound()
@@ -118,7 +96,7 @@ impl Engine {
     /// Whether a batch is open.
     pub fn in_batch(&self) -> bool
         ensures stands { (history : History) → StandsFor self.now history → result ≡ in_batch history }
-        ensures works { (history : History) (input : Input) → WorksFrom self.now history input → result ≡ false }
+        ensures works { (history : History) (input : Input) (left : ℕ) → WorksFrom self.now history input left → result ≡ false }
     {
         self.ledger.in_batch()
     }
@@ -127,20 +105,14 @@ impl Engine {
     pub fn working(&self) -> bool
         ensures { result ≡ is_working self.now }
     {
-        match self.state {
-            State::Working => true,
-            State::Resting | State::Spent => false,
-        }
+        !self.spent && self.work.working()
     }
 
     /// Whether a call has found no memory.
     pub fn spent(&self) -> bool
         ensures { result ≡ is_spent self.now }
     {
-        match self.state {
-            State::Spent => true,
-            State::Resting | State::Working => false,
-        }
+        self.spent
     }
 
     /// How an input is judged after those that were accepted: by the bound before an open batch, and by the copies with it.
@@ -156,7 +128,7 @@ impl Engine {
     pub fn begin(&mut self, input: Input) -> Result<(), EngineFault>
         requires { (is_spent self.old ≡ true) ⊎ ((history : History) × CanBegin self.old history input) }
         ensures works { (history : History) → StandsFor self.old history → settles history input ≡ true
-            → OnOk result (WorksFrom self.new history input) }
+            → OnOk result (WorksFrom self.new history input (visits_by (rules_of self.old) (late_of self.old) history input)) }
         ensures stands { (history : History) → StandsFor self.old history → settles history input ≡ false
             → OnOk result (StandsFor self.new (extended history input)) }
         ensures working { (history : History) → CanBegin self.old history input
@@ -171,22 +143,32 @@ impl Engine {
         if self.spent() {
             return Err(EngineFault::Spent);
         }
-        self.state = State::Spent;
+        self.spent = true;
         self.ledger.follow(self.late, input)?;
-        self.state = State::after_input(self.ledger.in_batch());
+        if self.ledger.in_batch() {
+            self.spent = false;
+            return Ok(());
+        }
+        let changes = self.ledger.changes(self.alloc)?;
+        self.work.begin(changes);
+        self.spent = false;
         Ok(())
     }
 
-    /// Works on the input that was begun, for about so many units, and answers whether it is done.
-    pub fn turn(&mut self, _units: u32) -> Result<Progress, EngineFault>
+    /// Works on the input that was begun, for at most so many visits of rows, and answers whether it is done.
+    pub fn turn(&mut self, units: u32) -> Result<Progress, EngineFault>
         requires { (is_spent self.old ≡ true) ⊎ (is_working self.old ≡ true) }
-        ensures done { (history : History) (input : Input) → WorksFrom self.old history input
+        ensures done { (history : History) (input : Input) (left : ℕ) → WorksFrom self.old history input left
             → IfOk result (λ p. p ≡ Done → StandsFor self.new (extended history input)) }
-        ensures change { (history : History) (input : Input) → WorksFrom self.old history input
+        ensures change { (history : History) (input : Input) (left : ℕ) → WorksFrom self.old history input left
             → IfOk result (λ p. p ≡ Done → last_change self.new ≡ change_by (rules_of self.new) history input) }
-        ensures more { (history : History) (input : Input) → WorksFrom self.old history input
-            → IfOk result (λ p. p ≡ More → WorksFrom self.new history input) }
-        ensures less { IfOk result (λ p. p ≡ More → work_left self.new < work_left self.old) }
+        ensures enough { (history : History) (input : Input) (left : ℕ) → WorksFrom self.old history input left
+            → IfOk result (λ p. p ≡ Done → left ≤ units) }
+        ensures visits { (history : History) (input : Input) (left : ℕ) → WorksFrom self.old history input left
+            → IfOk result (λ p. p ≡ Done → visits_of self.new ≡ counted (visits_by (rules_of self.old) (late_of self.old) history input)) }
+        ensures more { (history : History) (input : Input) (left : ℕ) → WorksFrom self.old history input left
+            → IfOk result (λ p. p ≡ More → (now : ℕ) × WorksFrom self.new history input now × (now + units ≡ left) × (0 < now)) }
+        ensures less { 0 < units → IfOk result (λ p. p ≡ More → work_left self.new < work_left self.old) }
         ensures spent { IsErrOf result EngineFault.Spent ↔ (is_spent self.old ≡ true) }
         ensures ok { OnOk result (is_spent self.new ≡ false) }
         ensures resting { IfOk result (λ p. p ≡ Done → is_working self.new ≡ false) }
@@ -198,20 +180,37 @@ impl Engine {
         if self.spent() {
             return Err(EngineFault::Spent);
         }
-        self.state = State::Spent;
-        self.table.follow(self.alloc, &self.rules, &self.ledger)?;
-        self.ledger.settle();
-        self.state = State::Resting;
-        Ok(Progress::Done)
+        self.spent = true;
+        let progress = self.work.turn(units)?;
+        match progress {
+            Progress::Done => {
+                self.ledger.settle();
+                self.spent = false;
+                Ok(Progress::Done)
+            }
+            Progress::More => {
+                self.spent = false;
+                Ok(Progress::More)
+            }
+        }
     }
 
-    /// What stands after all that is settled, in order and each once.
-    pub fn standing(&self) -> &[Detection]
-        requires resting { is_working self.now ≡ false }
-        requires unspent { is_spent self.now ≡ false }
-        ensures { (history : History) → StandsFor self.now history → result.now ≡ standing_after (rules_of self.now) history }
+    /// How many visits of rows were made for the input for which it worked last. It stays at 2^128 - 1 once it is there.
+    pub fn visits(&self) -> u128
+        ensures visits { result ≡ visits_of self.now }
+        ensures works { (history : History) (input : Input) (left : ℕ) → WorksFrom self.now history input left
+            → result ≡ counted (visits_by (rules_of self.now) (late_of self.now) history input - left) }
     {
-        self.table.standing()
+        self.work.visits_made()
+    }
+
+    /// What stands after all that is settled, in order and each once. It is found from the events, and takes the time of that.
+    pub fn standing(&self, alloc: Global) -> Result<Vec<Detection>, AllocError>
+        ensures { (history : History) → StandsFor self.now history
+            → IfOk result (λ v. v.items ≡ standing_after (rules_of self.now) history) }
+    {
+        let events = self.ledger.settled_events(alloc)?;
+        scratch(alloc, &self.rules, &events)
     }
 
     /// The detections that the last input for which it worked has taken away, in order.
@@ -220,7 +219,7 @@ impl Engine {
         requires unspent { is_spent self.now ≡ false }
         ensures { result.now ≡ (last_change self.now).gone }
     {
-        self.table.gone()
+        self.work.gone()
     }
 
     /// The detections that the last input for which it worked has brought, in order.
@@ -229,7 +228,7 @@ impl Engine {
         requires unspent { is_spent self.now ≡ false }
         ensures { result.now ≡ (last_change self.now).come }
     {
-        self.table.come()
+        self.work.come()
     }
 
     /// What the last input for which it worked has changed: the detections that have gone, and then those that have come.
@@ -238,6 +237,6 @@ impl Engine {
         requires unspent { is_spent self.now ≡ false }
         ensures { changes_left result ≡ signed (last_change self.now).gone (last_change self.now).come }
     {
-        Changes::over(self.table.gone(), self.table.come())
+        Changes::over(self.work.gone(), self.work.come())
     }
 }

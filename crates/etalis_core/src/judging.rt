@@ -1,18 +1,21 @@
 // How an input moves the bound, and whether it is misplaced, or below the bound.
 ghost use Rattle.std.specs.Prelude.{◌≡◌};
-ghost use Rattle.event_model.specs.Presence.{History, extended, in_batch, raised, is_below, is_misplaced};
+ghost use Rattle.event_model.specs.Presence.{History, added, extended, in_batch, raised, is_below, is_misplaced};
+ghost use Rattle.change_meaning.specs.Moved.{AreSpans};
 
 use event_model::Input;
 
 /// How far an input raises the bound: an event to its time less the lateness, where one is given.
 #[tactic(auto, using(crate::proofs::HistoryLaws::raised_more))]
 pub fn raised(late: Option<u64>, input: &Input) -> u64
-    ensures { result ≡ raised late input.now }
+    ensures raised { result ≡ raised late input.now }
+    ensures spans { AreSpans (added input.now) }
 {
     match input {
         Input::Add(event) => {
+            let time = event.span.end();
             match late {
-                Some(late) => event.time().saturating_sub(late),
+                Some(late) => time.saturating_sub(late),
                 None => 0,
             }
         }

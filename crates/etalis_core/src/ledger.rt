@@ -1,6 +1,7 @@
 // What is kept of the inputs: the events that are present, the bounds, and whether a batch is open.
 use crate::judging::{is_below, is_in_batch_after, is_misplaced, raised};
 use crate::present::Present;
+use event_changes::EventChange;
 use event_model::{Event, Input, Judgement};
 use std::alloc::{AllocError, Global};
 
@@ -15,10 +16,12 @@ pub struct Ledger {
 }
 
 impl Ledger {
-    ghost use Rattle.std.specs.Prelude.{◌≡◌, ◌↔◌, ℕ, Option, List, [], false, OnOk, OnErr, IfOk};
+    ghost use Rattle.std.specs.Prelude.{◌≡◌, ℕ, Option, List, [], OnOk, OnErr, IfOk};
     ghost use Rattle.event_model.specs.declared.inputs.Input.{Input};
     ghost use Rattle.event_model.specs.declared.inputs.Judgement.TheVariants.{Fine};
-    ghost use Rattle.event_model.specs.Presence.{History, no_history, settled, all_inputs, extended, in_batch, bound, present, judge, IsAccepted};
+    ghost use Rattle.event_model.specs.Presence.{History, added, no_history, settled, all_inputs, extended, in_batch, bound, present, judge, IsAccepted};
+    ghost use Rattle.event_changes.specs.Events.{event_changes};
+    ghost use Rattle.change_meaning.specs.Moved.{AreSpans};
     ghost use Rattle.etalis_core.specs.Kept.{number_of, HasRoom, IsLedgerOf};
 
     /// Of no inputs.
@@ -47,20 +50,20 @@ impl Ledger {
         self.in_batch
     }
 
-    /// The events that are present, in order.
-    pub fn events(&self, alloc: Global) -> Result<Vec<Event>, AllocError>
+    /// The events that were present at the last settlement, in order.
+    pub fn settled_events(&self, alloc: Global) -> Result<Vec<Event>, AllocError>
         ensures { (late : Option ℕ) (told : List Input) (history : History) → IsLedgerOf self.now late told history
-            → IfOk result (λ v. v.items ≡ present (all_inputs history)) }
+            → IfOk result (λ v. v.items ≡ present told) }
     {
-        self.present.events(alloc)
+        self.present.settled_events(alloc)
     }
 
-    /// Whether other events are present than at the last settlement.
-    pub fn has_changed(&self) -> bool
+    /// How the events that are present have changed since the last settlement, in order.
+    pub fn changes(&self, alloc: Global) -> Result<Vec<EventChange>, AllocError>
         ensures { (late : Option ℕ) (told : List Input) (history : History) → IsLedgerOf self.now late told history
-            → (result ≡ false) ↔ (present (all_inputs history) ≡ present told) }
+            → IfOk result (λ v. v.items ≡ event_changes (present told) (present (all_inputs history))) }
     {
-        self.present.has_changed()
+        self.present.changes(alloc)
     }
 
     /// How an input is judged after those that were followed.
@@ -87,6 +90,7 @@ impl Ledger {
             → judge late history input ≡ Fine → OnOk result (IsLedgerOf self.new late told (extended history input)) }
         ensures err { (told : List Input) (history : History) → IsLedgerOf self.old late told history
             → OnErr result (IsLedgerOf self.new late told history) }
+        ensures spans { AreSpans (added input) }
     {
         let next_bound = self.next_bound.max(raised(late, &input));
         let in_batch = is_in_batch_after(self.in_batch, &input);

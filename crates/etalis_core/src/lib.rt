@@ -7,7 +7,6 @@ mod faults;
 mod judging;
 mod ledger;
 mod present;
-mod table;
 
 pub use engine::Engine;
 pub use faults::{EngineFault, StartFault};

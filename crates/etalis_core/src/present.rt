@@ -1,5 +1,5 @@
 // The events that are present, with the numbers of their copies, and which of them have changed.
-ghost use Rattle.std.specs.Prelude.{◌≡◌, ◌<◌, IfSome, OnOk, OnErr, if◌then◌else◌, not};
+ghost use Rattle.std.specs.Prelude.{◌≡◌, ◌<◌, ◌&&◌, ◌||◌, IfSome, OnOk, OnErr, if◌then◌else◌, not};
 ghost use Rattle.std.specs.Ordering.{is_eq};
 ghost use Rattle.std.specs.BTreeMap.{get};
 ghost use Rattle.std.specs.BTreeSet.{BTreeSet, IsOrdered};
@@ -8,6 +8,7 @@ ghost use Rattle.ordered_lists.specs.Canon.{has};
 ghost use Rattle.event_model.specs.declared.events.Event.{Event};
 ghost use Rattle.event_model.specs.EventOrder.{event_cmp};
 
+use event_changes::EventChange;
 use event_model::{Event, Input};
 use std::alloc::{AllocError, Global};
 use std::collections::{BTreeMap, BTreeSet};
@@ -38,11 +39,22 @@ fn flip(events: &mut BTreeSet<Event>, event: &Event) -> Result<(), AllocError>
     Ok(())
 }
 
+// Puts an event into a set, if it is wanted there.
+fn put_if(events: &mut BTreeSet<Event>, event: &Event, wanted: bool) -> Result<(), AllocError>
+    ensures { (e : Event) → OnOk result (has event_cmp e events.new.keys
+        ≡ (has event_cmp e events.old.keys || (wanted && is_eq (event_cmp event.now e)))) }
+{
+    if wanted {
+        events.insert(event.share()?)?;
+    }
+    Ok(())
+}
+
 impl Present {
-    ghost use Rattle.std.specs.Prelude.{◌+◌, ◌-◌, ◌↔◌, List, [], ◌∷◌, IfOk, true, false};
+    ghost use Rattle.std.specs.Prelude.{◌+◌, ◌-◌, List, [], ◌∷◌, IfOk};
     ghost use Rattle.event_model.specs.Presence.{added, taken, occurrences, present, is_absent};
     ghost use Rattle.event_model.specs.declared.inputs.Input.{Input};
-    ghost use Rattle.etalis_core.specs.Kept.{number_of, was_kept, HasCopies, HasRoom};
+    ghost use Rattle.etalis_core.specs.Kept.{number_of, was_kept, net_change, net_changes, HasCopies, HasRoom};
 
     /// No events, and no changes.
     pub fn new(alloc: Global) -> Present
@@ -72,22 +84,54 @@ impl Present {
         }
     }
 
-    /// The events that are present, in order.
-    pub fn events(&self, alloc: Global) -> Result<Vec<Event>, AllocError>
-        ensures { (inputs : List Input) → HasCopies self.now inputs → IfOk result (λ v. v.items ≡ present inputs) }
+    /// The events that were present when the changes were last forgotten, in order.
+    pub fn settled_events(&self, alloc: Global) -> Result<Vec<Event>, AllocError>
+        ensures { (told : List Input) → ((e : Event) → was_kept self.now e ≡ has event_cmp e (present told))
+            → IfOk result (λ v. v.items ≡ present told) }
     {
-        let mut events = Vec::new(alloc);
+        let events = self.settled_set(alloc)?;
+        let mut list = Vec::new(alloc);
+        for event in &events {
+            list.push(event.share()?)?;
+        }
+        Ok(list)
+    }
+
+    // The same as a set.
+    fn settled_set(&self, alloc: Global) -> Result<BTreeSet<Event>, AllocError>
+        ensures { (e : Event) → IfOk result (λ set. has event_cmp e set.keys ≡ was_kept self.now e) }
+    {
+        let mut events = BTreeSet::new(alloc);
         for event in self.numbers.keys() {
-            events.push(event.share()?)?;
+            put_if(&mut events, event, !self.changed.contains(event))?;
+        }
+        for event in &self.changed {
+            put_if(&mut events, event, self.number_of(event) == 0)?;
         }
         Ok(events)
     }
 
-    /// Whether other events are present than when the changes were last forgotten.
-    pub fn has_changed(&self) -> bool
-        ensures { (result ≡ false) ↔ (self.now.changed.keys ≡ []) }
+    // How an event that has changed did.
+    fn change_of(&self, event: &Event) -> Result<EventChange, AllocError>
+        ensures { IfOk result (λ c. c ≡ net_change self.now event.now) }
     {
-        !self.changed.is_empty()
+        let shared = event.share()?;
+        if self.number_of(event) > 0 {
+            Ok(EventChange::Came(shared))
+        } else {
+            Ok(EventChange::Went(shared))
+        }
+    }
+
+    /// The changes since they were last forgotten, in the order of their events.
+    pub fn changes(&self, alloc: Global) -> Result<Vec<EventChange>, AllocError>
+        ensures { IfOk result (λ v. v.items ≡ net_changes self.now) }
+    {
+        let mut changes = Vec::new(alloc);
+        for event in &self.changed {
+            changes.push(self.change_of(event)?)?;
+        }
+        Ok(changes)
     }
 
     /// Forgets the changes.

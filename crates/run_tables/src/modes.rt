@@ -3,12 +3,13 @@ use crate::fixtures::{AB, CALM, Setting, list, run_over, writes};
 use detect_writer::drill_text;
 use drill_lines::drill_lines;
 use etalis_cli::{Mode, Status, run_words};
-use ev_term::{Detection, Event};
+use ev_term::{Detection, Event, cmp_terms};
 use event_reader::{Input, Line, LineReader, parse_line};
 use pattern_meaning::scratch;
 use rule_check::{Checked, check};
 use rule_parser::parse;
 use std::alloc::{AllocError, Global};
+use std::cmp::Ordering;
 use std::test::Fail;
 
 const AB_ANY: &[u8] = b"ab <- a(_) SEQ b(_).";
@@ -75,13 +76,13 @@ fn words_say_what_is_done(rt: HostRuntime) -> Result<(), Fail> {
             &["drill", "r", "--seed", "1", "--lines", "4"],
             AB_ANY,
             b"+ 1 a(7)\n",
-            b"drill 1 0 0 0\n",
+            b"drill 1 0 5 0\n",
         ),
         (
             &["--lines=4", "drill", "--late", "10", "r"],
             AB_ANY,
             b"",
-            b"drill 1 0 0 0\n",
+            b"drill 1 0 5 0\n",
         ),
         (
             &["drill", "r", "--lines=0"],
@@ -107,7 +108,7 @@ fn some_modes_leave_the_source_alone(rt: HostRuntime) -> Result<(), Fail> {
         (
             &["drill", "r", "--lines", "4"],
             Status::Done,
-            b"drill 1 0 0 0\n",
+            b"drill 1 0 5 0\n",
         ),
     ];
     for row in rows {
@@ -216,7 +217,52 @@ fn next_input(alloc: Global, reader: &mut LineReader) -> Result<Input, Fail> {
     }
 }
 
-// What a drill writes over so many lines, all of which are accepted: what stands is found from scratch before and after each.
+// Whether two events have the same first argument.
+fn same_argument(one: &Event, other: &Event) -> bool {
+    match (
+        one.atom.args.as_slice().first(),
+        other.atom.args.as_slice().first(),
+    ) {
+        (Some(x), Some(y)) => cmp_terms(x, y) == Ordering::Equal,
+        _ => false,
+    }
+}
+
+// How many events of the other name, each once, are partners of one by `a(X) SEQ b(X)`.
+fn partners(events: &[Event], one: &Event) -> u128 {
+    let is_left = one.atom.name.as_str() == "a";
+    let mut found: u128 = 0;
+    for place in 0..events.len() {
+        let other = &events[place];
+        let seen = events.iter().position(|event| *event == *other) != Some(place);
+        let behind = if is_left {
+            one.time() < other.time()
+        } else {
+            other.time() < one.time()
+        };
+        if !seen
+            && behind
+            && one.atom.name.as_str() != other.atom.name.as_str()
+            && same_argument(one, other)
+        {
+            found = found.saturating_add(1);
+        }
+    }
+    found
+}
+
+// How many visits an input makes over the events before it: one for an event that comes first or goes last, and one for each partner.
+fn visits(events: &[Event], input: &Input) -> u128 {
+    let copies = |event: &Event| events.iter().filter(|other| **other == *event).count();
+    match input {
+        Input::Add(event) if copies(event) == 0 => partners(events, event).saturating_add(1),
+        Input::Take(event) if copies(event) == 1 => partners(events, event).saturating_add(1),
+        _ => 0,
+    }
+}
+
+// What a drill writes over so many lines, all of which are accepted: what stands is found from scratch before and after each, and
+// partners by looking at all events.
 fn drilled(alloc: Global, rules: &Checked, lines: &[u8], count: usize) -> Result<Vec<u8>, Fail> {
     let mut reader = LineReader::new(alloc);
     reader.feed(lines)?;
@@ -224,15 +270,18 @@ fn drilled(alloc: Global, rules: &Checked, lines: &[u8], count: usize) -> Result
     let mut before = Vec::new(alloc);
     let mut told: u128 = 0;
     let mut withdrawn: u128 = 0;
+    let mut made: u128 = 0;
     for _line in 0..count {
-        follow(&mut events, next_input(alloc, &mut reader)?)?;
+        let input = next_input(alloc, &mut reader)?;
+        made = made.saturating_add(visits(&events, &input));
+        follow(&mut events, input)?;
         let after = scratch(alloc, rules, &events)?;
         told = told.saturating_add(missing(&after, &before));
         withdrawn = withdrawn.saturating_add(missing(&before, &after));
         before = after;
     }
     let mut text = Vec::new(alloc);
-    drill_text(told, withdrawn, 0, 0, &mut text)?;
+    drill_text(told, withdrawn, made, 0, &mut text)?;
     Ok(text)
 }
 

@@ -4,9 +4,9 @@ use Rattle.event_model.specs.Presence.{Says, Fails, verdict}
 use Rattle.event_model.specs.declared.inputs.Refusal.TheVariants.{Syntax}
 use Rattle.event_reader.specs.Machine.{heard}
 use Rattle.event_reader.proofs.LineLaws.{heard_short}
-use Rattle.etalis_core.specs.StandsFor.{StandsFor, rules_of, late_of, last_change}
+use Rattle.etalis_core.specs.StandsFor.{StandsFor, rules_of, late_of, last_change, visits_of}
 use Rattle.etalis_cli.specs.Replying.{refusal_of}
-use Rattle.etalis_cli.proofs.ReplyLaws.{fails, says_refused, says_accepted, refused_reply, refused_history, accepted_history, accepted_answer, not_refused, may_begin}
+use Rattle.etalis_cli.proofs.ReplyLaws.{fails, says_refused, says_accepted, refused_reply, refused_history, accepted_history, accepted_answer, accepted_visits, not_refused, may_begin}
 use Rattle.etalis_cli.proofs.replying.take_short.Goals as goal
 
 pub returns-in-Err-Syntax-clause-stands : goal.returns-in-Err-Syntax-clause-stands
@@ -57,3 +57,11 @@ returns-in-None-clause-reply c = λ h p.
     let fine = not_refused _ (sym (ap refusal_of (c.judge.ensures h p)) ∙ sym c.refusal_of.ensures ∙ c.in-None.is) in
     let takes = says_accepted late h line c.in-Ok.input (heard_short line (Says c.in-Ok.input) c.in-Ok.ensures) fine in
     accepted_answer (rules_of c.args.engine.now) h (verdict late h (heard line)) c.in-Ok.input takes (last_change c.take_input.new.engine) c.take_input.result (c.take_input.ensures.reply h p)
+
+pub returns-in-None-clause-visits : goal.returns-in-None-clause-visits
+returns-in-None-clause-visits c = λ h p.
+    let line = c.args.line.now in
+    let late = late_of c.args.engine.now in
+    let fine = not_refused _ (sym (ap refusal_of (c.judge.ensures h p)) ∙ sym c.refusal_of.ensures ∙ c.in-None.is) in
+    let takes = says_accepted late h line c.in-Ok.input (heard_short line (Says c.in-Ok.input) c.in-Ok.ensures) fine in
+    accepted_visits (rules_of c.args.engine.now) late h (verdict late h (heard line)) c.in-Ok.input takes (visits_of c.take_input.new.engine) c.take_input.result (c.take_input.ensures.visits h p)
