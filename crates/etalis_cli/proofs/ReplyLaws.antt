@@ -1,5 +1,5 @@
 -- The reply to a line, by what it says and how that is judged.
-use Rattle.std.proofs.Common.{◌≡◌, ℕ, ◌<◌, ◌&&◌, ◌||◌, not, Bool, true, false, if◌then◌else◌, Result, Ok, Err, IfOk, Option, Some, None, List, [], ◌∷◌, ◌++◌, length, map, refl, sym, ap, ◌∙◌, subst, arith, ◌+◌, ◌≤◌, drop, get_or, add-one, append_assoc, append-nil}
+use Rattle.std.proofs.Common.{◌≡◌, ℕ, ◌<◌, ◌&&◌, ◌⊎◌, inl, inr, not, Bool, true, false, if◌then◌else◌, Result, Ok, Err, IfOk, Option, Some, None, List, [], ◌∷◌, ◌++◌, length, map, refl, sym, ap, ◌∙◌, subst, arith, ◌+◌, ◌≤◌, drop, get_or, add-one, append_assoc, append-nil}
 use Rattle.std.specs.List.{flat_map}
 use Rattle.std.proofs.Math.Seq.{drop-cons}
 use Rattle.std.proofs.lemmas.List.{drop_all}
@@ -14,7 +14,7 @@ use Rattle.event_model.specs.declared.inputs.Refusal.{Refusal}
 use Rattle.event_model.specs.declared.inputs.Refusal.TheVariants.{Syntax}
 use Rattle.event_model.specs.declared.events.Detection.{Detection}
 use Rattle.rule_ast.specs.Trees.{PlainStatement}
-use Rattle.pattern_meaning.specs.Replies.{Change, Silent, Refusing, Changing, change_by, says_nothing, reply, reply_to_input, change_text, change_texts, both_texts}
+use Rattle.pattern_meaning.specs.Replies.{Change, Silent, Refusing, Changing, change_by, says_nothing, is_told, reply, reply_to_input, change_text, change_texts, both_texts}
 use Rattle.event_changes.specs.Told.{PlainChanged, signed}
 use Rattle.event_changes.specs.declared.changes.Sign.TheVariants.{Plus, Minus}
 use Rattle.detect_writer.specs.Signs.{sign_byte}
@@ -90,42 +90,28 @@ settles_where engine h input b works stands is = at (settles h input) refl
     at true e = e ∙ sym (works e).1.is_begun ∙ is
     at false e = e ∙ sym (stands e).not_working ∙ is
 
-pub not_true : (b : Bool) → not b ≡ true → b ≡ false
-not_true true e = sym e
-not_true false e = refl
+-- its reply and its visits, by whether it settled something and whether it says nothing
+module _ (rules : List PlainStatement) (late : Option ℕ) (h : History) (input : Input) where
+  not_told : (settles h input ≡ false) ⊎ (says_nothing input ≡ true) → is_told h input ≡ false
+  not_told (inl e) = ap (λ b. b && not (says_nothing input)) e
+  not_told (inr e) = ap (λ b. settles h input && not b) e ∙ and_false (settles h input)
+    where
+      and_false : (b : Bool) → (b && false) ≡ false
+      and_false true = refl
+      and_false false = refl
 
-pub not_false : (b : Bool) → not b ≡ false → b ≡ true
-not_false true e = refl
-not_false false e = sym e
+  pub silent_reply : (settles h input ≡ false) ⊎ (says_nothing input ≡ true) → (n : ℕ) → Silent ≡ reply_to_input rules h n input
+  silent_reply e n = sym (ap (λ t. if t then Changing n (change_by rules h input) else Silent) (not_told e))
 
-not_told : (a b : Bool) → (not a || b) ≡ true → (a && not b) ≡ false
-not_told true true e = refl
-not_told true false e = sym e
-not_told false b e = refl
+  module _ (settling : settles h input ≡ true) (speaks : says_nothing input ≡ false) where
+    told : is_told h input ≡ true
+    told = λ i. settling i && not (speaks i)
 
-told_so : (a b : Bool) → (not a || b) ≡ false → (a && not b) ≡ true
-told_so true true e = sym e
-told_so true false e = refl
-told_so false b e = sym e
+    pub told_reply : (c : Change) → c ≡ change_by rules h input → (n : ℕ) → Changing n c ≡ reply_to_input rules h n input
+    told_reply c is n = ap (Changing n) is ∙ sym (ap (λ t. if t then Changing n (change_by rules h input) else Silent) told)
 
-pub first_so : (a b : Bool) → (not a || b) ≡ false → a ≡ true
-first_so true b e = refl
-first_so false b e = sym e
-
-module _ (rules : List PlainStatement) (late : Option ℕ) (h : History) (input : Input) (settled silent : Bool) (s : settled ≡ settles h input)
-    (q : silent ≡ says_nothing input) where
-  pub silent_reply : (not settled || silent) ≡ true → (n : ℕ) → Silent ≡ reply_to_input rules h n input
-  silent_reply e n =
-      sym (ap (λ t. if t then Changing n (change_by rules h input) else Silent) ((λ i. sym s i && not (sym q i)) ∙ not_told settled silent e))
-
-  pub told_reply : (not settled || silent) ≡ false → (c : Change) → c ≡ change_by rules h input → (n : ℕ) → Changing n c ≡ reply_to_input rules h n input
-  told_reply e c is n =
-      ap (Changing n) is
-      ∙ sym (ap (λ t. if t then Changing n (change_by rules h input) else Silent) ((λ i. sym s i && not (sym q i)) ∙ told_so settled silent e))
-
-  pub told_visits : (not settled || silent) ≡ false → (made : ℕ) → made ≡ capped (visits_by rules late h input) → made ≡ capped (visits_told rules late h input)
-  told_visits e made is =
-      is ∙ sym (ap (λ t. capped (if t then visits_by rules late h input else 0)) ((λ i. sym s i && not (sym q i)) ∙ told_so settled silent e))
+    pub told_visits : (made : ℕ) → made ≡ capped (visits_by rules late h input) → made ≡ capped (visits_told rules late h input)
+    told_visits made is = is ∙ sym (ap (λ t. capped (if t then visits_by rules late h input else 0)) told)
 
 -- ---- what may begin
 

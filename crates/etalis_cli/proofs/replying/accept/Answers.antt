@@ -3,7 +3,7 @@ use Rattle.event_model.specs.Presence.{settles}
 use Rattle.pattern_meaning.specs.Replies.{change_by}
 use Rattle.revision.specs.Holding.{counted as capped}
 use Rattle.etalis_core.specs.StandsFor.{rules_of, late_of, visits_by}
-use Rattle.etalis_cli.proofs.ReplyLaws.{settles_where, not_true, not_false}
+use Rattle.etalis_cli.proofs.ReplyLaws.{settles_where}
 use Rattle.etalis_cli.proofs.replying.accept.Goals as goal
 
 pub returns-then-not-working-clause-stands : goal.returns-then-not-working-clause-stands
@@ -11,21 +11,21 @@ returns-then-not-working-clause-stands c = λ h s.
     let begun = c.in-Ok.ensures in
     let left = visits_by (rules_of c.args.engine.now) (late_of c.args.engine.now) h c.args.input in
     begun.stands h s (settles_where c.begin.new.self h c.args.input false (λ e. (left, begun.works h s e)) (begun.stands h s)
-    (sym c.working.ensures ∙ not_true c.working.result c.if-not-working.true))
+    (sym c.working.ensures ∙ c.if-not-working.true))
 
 pub returns-clause-settled : goal.returns-clause-settled
 returns-clause-settled c = λ h s.
     let begun = c.in-Ok.ensures in
     let left = visits_by (rules_of c.args.engine.now) (late_of c.args.engine.now) h c.args.input in
     sym (settles_where c.begin.new.self h c.args.input true (λ e. (left, begun.works h s e)) (begun.stands h s)
-    (sym c.working.ensures ∙ not_false c.working.result c.if-not-working.false))
+    (sym c.working.ensures ∙ c.if-not-working.false))
 
 pub returns-clause-stands : goal.returns-clause-stands
 returns-clause-stands c = λ h s.
     let begun = c.in-Ok.ensures in
     let left = visits_by (rules_of c.args.engine.now) (late_of c.args.engine.now) h c.args.input in
     let settling = settles_where c.begin.new.self h c.args.input true (λ e. (left, begun.works h s e)) (begun.stands h s)
-    (sym c.working.ensures ∙ not_false c.working.result c.if-not-working.false) in
+    (sym c.working.ensures ∙ c.if-not-working.false) in
     c.in_ok-finish.ensures.stands h c.args.input left (begun.works h s settling)
 
 pub returns-clause-change : goal.returns-clause-change
