@@ -28,9 +28,35 @@ const OPERATORS: [&[u8]; 8] = [
     b" FINISHES ",
 ];
 
+// A part of a pattern that is still to be drawn.
+#[derive(Clone, Copy)]
+enum Part {
+    Text(&'static [u8]),
+    Digit(u32),
+    // Of operators up to this depth; it binds X, or binds nothing.
+    Pattern { depth: u32, binds: bool },
+}
+
+// A pattern of a lower depth than this one.
+fn inner(depth: u32, binds: bool) -> Part {
+    Part::Pattern {
+        depth: depth.saturating_sub(1),
+        binds,
+    }
+}
+
+// These parts come next.
+fn put(parts: &mut Vec<Part>, pieces: &[Part]) -> Result<(), AllocError> {
+    for piece in pieces.iter().rev() {
+        parts.push(*piece)?;
+    }
+    Ok(())
+}
+
 // Text that is drawn at random.
 #[derive(Drop)]
 struct Draft {
+    alloc: Global,
     rng: SmallRng,
     text: Vec<u8>,
 }
@@ -38,6 +64,7 @@ struct Draft {
 impl Draft {
     fn new(alloc: Global, seed: u64) -> Draft {
         Draft {
+            alloc,
             rng: SmallRng::seed_from_u64(seed),
             text: Vec::new(alloc),
         }
@@ -74,69 +101,103 @@ impl Draft {
         self.push(if binds { b"X)" } else { b"_)" })
     }
 
-    // A pattern in brackets, of operators up to this depth.
-    fn push_pattern(&mut self, depth: u32, rules: u32, binds: bool) -> Result<(), AllocError> {
+    // The parts of a pattern.
+    fn open(
+        &mut self,
+        depth: u32,
+        rules: u32,
+        binds: bool,
+        parts: &mut Vec<Part>,
+    ) -> Result<(), AllocError> {
+        const COMPARES: [&[u8]; 3] = [b" WHERE X > ", b" WHERE X <= ", b" WHERE X != "];
         if depth == 0 {
             return self.push_atom(rules, binds);
         }
         let left = binds && self.below(3) > 0;
         let right = binds && (!left || self.below(2) > 0);
+        let operator = OPERATORS[self.below(8) as usize % 8];
+        let compare = COMPARES[self.below(3) as usize % 3];
+        let inside = binds && self.below(2) > 0;
         match self.below(10) {
             0 => self.push_atom(rules, binds),
-            1 => self.push_pair(b" OR ", depth - 1, rules, (binds, binds)),
-            2 | 3 => self.push_not(depth - 1, rules, (left, right)),
-            4 => {
-                self.push(b"(")?;
-                self.push_pattern(depth - 1, rules, binds)?;
-                self.push(b").")?;
-                self.push_digit(6)
-            }
-            5 => {
-                self.push(b"(")?;
-                self.push_pattern(depth - 1, rules, binds)?;
-                self.push(b") WITHIN ")?;
-                self.push_digit(8)
-            }
-            6 if binds => {
-                self.push(b"(")?;
-                self.push_pattern(depth - 1, rules, true)?;
-                self.push(b" WHERE X ")?;
-                let compares: [&[u8]; 3] = [b"> ", b"<= ", b"!= "];
-                let compare = self.below(3) as usize % 3;
-                self.push(compares[compare])?;
-                self.push_digit(3)?;
-                self.push(b")")
-            }
-            _ => {
-                let operator = self.below(8) as usize % 8;
-                self.push_pair(OPERATORS[operator], depth - 1, rules, (left, right))
-            }
+            1 => put(
+                parts,
+                &[
+                    Part::Text(b"("),
+                    inner(depth, binds),
+                    Part::Text(b" OR "),
+                    inner(depth, binds),
+                    Part::Text(b")"),
+                ],
+            ),
+            2 | 3 => put(
+                parts,
+                &[
+                    Part::Text(b"NOT("),
+                    inner(depth, inside),
+                    Part::Text(b").["),
+                    inner(depth, left),
+                    Part::Text(b","),
+                    inner(depth, right),
+                    Part::Text(b"]"),
+                ],
+            ),
+            4 => put(
+                parts,
+                &[
+                    Part::Text(b"("),
+                    inner(depth, binds),
+                    Part::Text(b")."),
+                    Part::Digit(6),
+                ],
+            ),
+            5 => put(
+                parts,
+                &[
+                    Part::Text(b"("),
+                    inner(depth, binds),
+                    Part::Text(b") WITHIN "),
+                    Part::Digit(8),
+                ],
+            ),
+            6 if binds => put(
+                parts,
+                &[
+                    Part::Text(b"("),
+                    inner(depth, true),
+                    Part::Text(compare),
+                    Part::Digit(3),
+                    Part::Text(b")"),
+                ],
+            ),
+            _ => put(
+                parts,
+                &[
+                    Part::Text(b"("),
+                    inner(depth, left),
+                    Part::Text(operator),
+                    inner(depth, right),
+                    Part::Text(b")"),
+                ],
+            ),
         }
     }
 
-    fn push_pair(
-        &mut self,
-        operator: &[u8],
-        depth: u32,
-        rules: u32,
-        binds: (bool, bool),
-    ) -> Result<(), AllocError> {
-        self.push(b"(")?;
-        self.push_pattern(depth, rules, binds.0)?;
-        self.push(operator)?;
-        self.push_pattern(depth, rules, binds.1)?;
-        self.push(b")")
-    }
-
-    fn push_not(&mut self, depth: u32, rules: u32, binds: (bool, bool)) -> Result<(), AllocError> {
-        let inside = (binds.0 || binds.1) && self.below(2) > 0;
-        self.push(b"NOT(")?;
-        self.push_pattern(depth, rules, inside)?;
-        self.push(b").[")?;
-        self.push_pattern(depth, rules, binds.0)?;
-        self.push(b",")?;
-        self.push_pattern(depth, rules, binds.1)?;
-        self.push(b"]")
+    // A pattern of operators up to this depth.
+    fn push_pattern(&mut self, depth: u32, rules: u32, binds: bool) -> Result<(), AllocError> {
+        let mut parts = Vec::new(self.alloc);
+        parts.push(Part::Pattern { depth, binds })?;
+        for _part in 0..10_000 {
+            let Some(part) = parts.pop() else {
+                return Ok(());
+            };
+            match part {
+                Part::Text(text) => self.push(text)?,
+                Part::Digit(many) => self.push_digit(many)?,
+                Part::Pattern { depth, binds } => self.open(depth, rules, binds, &mut parts)?,
+            }
+        }
+        Ok(())
     }
 
     fn push_rule(&mut self, head: &[u8], rules: u32, binds: bool) -> Result<(), AllocError> {
@@ -278,6 +339,9 @@ fn runs_agree_with_the_plain_evaluator(rt: HostRuntime) -> Result<(), Fail> {
         let Ok(text) = str::from_utf8(&rules) else {
             return Err(Fail::new("no text"));
         };
+        if text.len() > 1_000_000 {
+            return Err(Fail::new("a long text"));
+        }
         let Ok(parsed) = parse(rt.alloc(), text) else {
             return Err(Fail::new("no rules"));
         };

@@ -251,12 +251,19 @@ fn partners(events: &[Event], one: &Event) -> u128 {
     found
 }
 
+fn copies(events: &[Event], event: &Event) -> usize {
+    events.iter().filter(|other| **other == *event).count()
+}
+
 // How many visits an input makes over the events before it: one for an event that comes first or goes last, and one for each partner.
 fn visits(events: &[Event], input: &Input) -> u128 {
-    let copies = |event: &Event| events.iter().filter(|other| **other == *event).count();
     match input {
-        Input::Add(event) if copies(event) == 0 => partners(events, event).saturating_add(1),
-        Input::Take(event) if copies(event) == 1 => partners(events, event).saturating_add(1),
+        Input::Add(event) if copies(events, event) == 0 => {
+            partners(events, event).saturating_add(1)
+        }
+        Input::Take(event) if copies(events, event) == 1 => {
+            partners(events, event).saturating_add(1)
+        }
         _ => 0,
     }
 }
