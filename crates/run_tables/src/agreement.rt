@@ -1,9 +1,10 @@
 // Random rule files and lines: what a run writes is what the plain evaluator finds before and after each line.
 use crate::fixtures::writes;
+use crate::modes::{follow, next_input};
 use detect_writer::{change_text, end_text, ok_text};
-use ev_term::{Detection, Event};
+use ev_term::Detection;
 use event_changes::Sign;
-use event_reader::{Input, Line, LineReader, parse_line};
+use event_reader::{Input, LineReader};
 use pattern_meaning::scratch;
 use rand::SeedableRng;
 use rand::rngs::SmallRng;
@@ -267,20 +268,6 @@ fn drawn_lines(alloc: Global, seed: u64) -> Result<Vec<u8>, AllocError> {
     Ok(text)
 }
 
-// The events with one that is added, or without one copy of one that is taken back.
-fn follow(events: &mut Vec<Event>, input: Input) -> Result<(), AllocError> {
-    match input {
-        Input::Add(event) => events.push(event)?,
-        Input::Take(event) => {
-            if let Some(place) = events.iter().position(|other| *other == event) {
-                events.swap_remove(place);
-            }
-        }
-        Input::Advance(_) | Input::Nothing | Input::Begin | Input::Commit => {}
-    }
-    Ok(())
-}
-
 // Appends a line for each of these that isn't among the others.
 fn push_missing(
     sign: Sign,
@@ -305,15 +292,10 @@ fn found(alloc: Global, rules: &Checked, lines: &[u8]) -> Result<Vec<u8>, Fail> 
     let mut in_batch = false;
     let mut text = Vec::new(alloc);
     let mut count: u64 = 0;
-    while let Some(Line::Bytes(bytes)) = reader.next_line() {
-        if bytes.len() > 65_536 {
-            return Err(Fail::new("a line is too long"));
-        }
-        let Ok(input) = parse_line(alloc, bytes) else {
-            return Err(Fail::new("a line says nothing"));
-        };
+    for _line in 0..lines.iter().filter(|byte| **byte == b'\n').count() {
+        let input = next_input(alloc, &mut reader)?;
         count = count.saturating_add(1);
-        match input {
+        match &input {
             Input::Begin => in_batch = true,
             Input::Commit => in_batch = false,
             _ => {}

@@ -189,7 +189,7 @@ fn missing(these: &[Detection], others: &[Detection]) -> u128 {
 }
 
 // The events with one that is added, or without one copy of one that is taken back.
-fn follow(events: &mut Vec<Event>, input: Input) -> Result<(), Fail> {
+pub(crate) fn follow(events: &mut Vec<Event>, input: Input) -> Result<(), Fail> {
     match input {
         Input::Add(event) => events.push(event)?,
         Input::Take(event) => {
@@ -202,7 +202,7 @@ fn follow(events: &mut Vec<Event>, input: Input) -> Result<(), Fail> {
     Ok(())
 }
 
-fn next_input(alloc: Global, reader: &mut LineReader) -> Result<Input, Fail> {
+pub(crate) fn next_input(alloc: Global, reader: &mut LineReader) -> Result<Input, Fail> {
     match reader.next_line() {
         Some(Line::Bytes(bytes)) => {
             if bytes.len() > 65_536 {
