@@ -4,3 +4,4 @@ pub mod Held
 pub mod MemShelf
 pub mod MemSink
 pub mod MemSource
+pub mod Sure

@@ -4,6 +4,7 @@
 mod memory;
 mod ports;
 mod real;
+mod sure;
 #[cfg(test)]
 mod tests;
 mod whole;
@@ -11,4 +12,5 @@ mod whole;
 pub use memory::{MemShelf, MemSink, MemSource};
 pub use ports::{Failed, LAST_COUNT, Shelf, Sink, Source};
 pub use real::{FileShelf, FromReader, ToWriter};
+pub use sure::{SureSink, SureSource};
 pub use whole::{WholeFault, read_whole, write_whole};
