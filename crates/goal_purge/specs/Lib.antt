@@ -1,1 +1,4 @@
 pub mod Charges
+pub mod Expiring
+pub mod Purging
+pub mod Following
