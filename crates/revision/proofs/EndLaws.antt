@@ -1,18 +1,21 @@
 -- One step of the parts of a work after the other, and the end of all.
-use Rattle.std.specs.Prelude.{ℕ, ◌≡◌, ◌+◌, ◌-◌, ◌<◌, ◌≤◌, refl, ◌⊎◌, Option, Some, None, List, length, map, slice_get}
+use Rattle.std.specs.Prelude.{ℕ, ◌≡◌, ◌+◌, ◌-◌, ◌<◌, ◌≤◌, refl, ◌&&◌, ◌⊎◌, Option, Some, None, List, [], length, map, slice_get}
 use Rattle.std.specs.declared.alloc.Global.{Global}
 use Rattle.std.specs.declared.vec.Vec.{Vec}
 use Rattle.std.proofs.Common.{ap, sym, ◌∙◌, subst, inl, inr, arith}
+use Rattle.std.proofs.lemmas.Bool.{cases_lt}
 use Rattle.std.proofs.lemmas.List.{length-map}
-use Rattle.ordered_lists.specs.Canon.{canon}
+use Rattle.ordered_lists.specs.Canon.{canon, has}
 use Rattle.event_model.specs.EventOrder.{detection_cmp}
 use Rattle.event_model.specs.declared.events.Detection.{Detection}
 use Rattle.event_model.specs.declared.events.Event.{Event}
 use Rattle.event_changes.specs.declared.changes.Sign.TheVariants.{Plus, Minus}
+use Rattle.ev_bind.specs.Rows.{row_cmp}
+use Rattle.ev_bind.specs.declared.rows.Row.{Row}
 use Rattle.rule_ast.specs.PlainPlans.{PlainStep, plain_step}
 use Rattle.step_meaning.specs.PlanOf.{plan_indexes}
 use Rattle.step_meaning.specs.StepRows.{step_at}
-use Rattle.change_meaning.specs.Caps.{caps_in}
+use Rattle.change_meaning.specs.Caps.{caps_in, kept_rows}
 use Rattle.change_meaning.specs.Courses.{Course, course_of}
 use Rattle.change_meaning.specs.Keys.{IsWorkable}
 use Rattle.change_meaning.specs.Shown.{shown_change}
@@ -20,16 +23,20 @@ use Rattle.goal_store.specs.Few.{few_seen}
 use Rattle.goal_store.specs.Goals.{seen_settled, Settled, SamePlan}
 use Rattle.goal_store.specs.declared.kept.GoalStore.{GoalStore}
 use Rattle.goal_store.specs.declared.marks.When.TheVariants.{Before, After}
+use Rattle.goal_purge.specs.Expiring.{due, expires_at}
+use Rattle.goal_purge.specs.declared.expiries.Expiries.{Expiries}
 use Rattle.step_work.specs.Few.{left_few}
 use Rattle.step_work.specs.Ways.{AreWays}
 use Rattle.step_work.specs.declared.ways.StepWay.{StepWay}
 use Rattle.revision.specs.Works.{OnCourse, MOST_LEFT, hand_left, IsFurther}
 use Rattle.revision.specs.Holding.{WorksTo, counted}
-use Rattle.revision.specs.InHand.{left_at, steps_in, hand, Goes, Stays, AllGo}
-use Rattle.revision.specs.Lists.{told_by}
+use Rattle.revision.specs.InHand.{left_at, steps_in, hand, IsDue, Goes, Stays, AllGo}
+use Rattle.revision.specs.Following.{due_step}
+use Rattle.revision.specs.Lists.{rows_at, told_by}
 use Rattle.revision.specs.PartsTurned.{GoesOn, Ends}
 use Rattle.revision.specs.declared.parts.Parts.{Parts}
 use Rattle.revision.proofs.BoundLaws.{left_falls, left_falls_far}
+use Rattle.revision.proofs.FollowLaws.{rows_past, Changes, followed}
 use Rattle.revision.proofs.HoldLaws.{works_on, ended, told_shown}
 use Rattle.revision.proofs.TurnLaws.{none_more}
 
@@ -77,6 +84,7 @@ pub stays_on : (a b c : Parts) → Stays a b → Stays b c → Stays a c
 stays_on a b c m n = record {
   plan = n.plan ∙ m.plan;
   caps = n.caps ∙ m.caps;
+  expiries = n.expiries ∙ m.expiries;
   gone = n.gone ∙ m.gone;
   come = n.come ∙ m.come;
   made = n.made ∙ m.made;
@@ -93,6 +101,14 @@ all_done p c now left before units g spent le =
       le,
       omega (arith, z, spent),
     )
+
+-- the expiries of parts whose plan, caps and expiries stay
+pub stays_due : (old new : Parts) (b : ℕ) (E : List Event) → Stays old new → IsDue old b E → IsDue new b E
+stays_due old new b E s f d k r =
+    (λ i. due (s.expiries i) d k r)
+    ∙ f d k r
+    ∙ (λ i. let caps = caps_in (sym s.caps i) in
+    has row_cmp r (kept_rows (map plain_step (sym s.plan i).steps.items) caps b E k) && expires_at (caps.cap k) (caps.reach k) r.span d)
 
 -- the number of visits that were made is no part of a course
 pub still_goes : (p : Parts) (made : ℕ) (c : Course) (left : ℕ) → Goes p c left → Goes (record p { made = made }) c left
@@ -128,13 +144,39 @@ module _ (old m : Parts) (stays : Stays old m) (b : ℕ) (E F : List Event) (lef
   past : length (steps_in m) ≤ m.finished
   past = let n = steps_number m in let le = g.1 in omega (arith, n, le)
 
-  pub all_over : (goals : GoalStore) (gone come : Vec Detection Global) (made : ℕ) → Settled m.goals goals → SamePlan m.goals goals
+  -- the kept rows of the steps over these events
+  abbrev kept : List Event → ℕ → List Row
+  kept G = kept_rows (steps_in m) (caps_in m.caps) b G
+
+  -- the list of each step has the rows that came and went
+  all_changed : (s : ℕ) → Changes (rows_at m.changed.items s) (kept E s) (kept F s)
+  all_changed s = at (cases_lt s m.finished)
+    where
+      at : (s < m.finished) ⊎ (m.finished ≤ s) → Changes (rows_at m.changed.items s) (kept E s) (kept F s)
+      at (inl lt) = inl (course_here.between.changed_done s lt)
+      at (inr le) =
+          let all = g.1 in
+          let listed = g.0.ready.listed in
+          let number = steps_number m in
+          let beyond : length (steps_in m) ≤ s = omega (arith, all, le, number) in
+          let none : length m.changed.items ≤ s = omega (arith, all, le, listed) in
+          inr (rows_past m.changed.items s none, (course_here.between.course.beyond s beyond).0)
+
+  -- so the expiries that follow the lists are those of the rows after
+  pub all_due : IsDue old b E → (expiries : Expiries)
+      → ((d s : ℕ) (r : Row) → due expiries d s r ≡ due_step (caps_in m.caps) m.changed.items d s r (due m.expiries d s r))
+      → IsDue (record m { expiries = expiries }) b F
+  all_due was expiries is =
+      followed (caps_in m.caps) m.changed.items (kept E) (kept F) m.expiries expiries all_changed (stays_due old m b E stays was) is
+
+  pub all_over : (goals : GoalStore) (expiries : Expiries) (gone come : Vec Detection Global) (made : ℕ)
+      → Settled m.goals goals → SamePlan m.goals goals
       → gone.items ≡ canon detection_cmp (told_by Minus (steps_in m) m.plan.shown.items m.changed.items)
       → come.items ≡ canon detection_cmp (told_by Plus (steps_in m) m.plan.shown.items m.changed.items)
       → made ≡ counted (old.made + (units - rest))
-      → Ends old (record m { goals = goals; gone = gone; come = come; made = made }) b E F left units
-  all_over goals gone come made settles plan has_gone has_come e =
-      let new : Parts = record m { goals = goals; gone = gone; come = come; made = made } in
+      → Ends old (record m { goals = goals; expiries = expiries; gone = gone; come = come; made = made }) b E F left units
+  all_over goals expiries gone come made settles plan has_gone has_come e =
+      let new : Parts = record m { goals = goals; expiries = expiries; gone = gone; come = come; made = made } in
       record {
         holds = ended (hand m) b E F course_here past (hand new) refl refl (subst IsWorkable (sym (same_steps old m stays)) w.workable)
             (λ j. seen_settled m.goals goals settles j Before) (λ j. seen_settled m.goals goals settles j After) (λ j r. refl);

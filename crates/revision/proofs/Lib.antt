@@ -12,3 +12,5 @@ pub mod WorkLaws
 pub mod TellLaws
 pub mod NewLaws
 pub mod IdleLaws
+pub mod FollowLaws
+pub mod SweepLaws

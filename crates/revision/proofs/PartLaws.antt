@@ -123,6 +123,7 @@ module _ (p m : Parts) (e : m ≡ record p { spot = m.spot; pending = m.pending 
   stays_mid new s = record {
     plan = s.plan ∙ ap (λ q. q.plan) e;
     caps = s.caps ∙ ap (λ q. q.caps) e;
+    expiries = s.expiries ∙ ap (λ q. q.expiries) e;
     gone = s.gone ∙ ap (λ q. q.gone) e;
     come = s.come ∙ ap (λ q. q.come) e;
     made = s.made ∙ ap (λ q. q.made) e;
@@ -132,6 +133,7 @@ module _ (p m : Parts) (e : m ≡ record p { spot = m.spot; pending = m.pending 
   stays_at = record {
     plan = ap (λ q. q.plan) e;
     caps = ap (λ q. q.caps) e;
+    expiries = ap (λ q. q.expiries) e;
     gone = ap (λ q. q.gone) e;
     come = ap (λ q. q.come) e;
     made = ap (λ q. q.made) e;

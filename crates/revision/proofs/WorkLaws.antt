@@ -1,5 +1,5 @@
 -- A work, in the words of its parts.
-use Rattle.std.specs.Prelude.{ℕ, ◌≡◌, ◌+◌, ◌-◌, ◌≤◌, true, List, map}
+use Rattle.std.specs.Prelude.{ℕ, ◌≡◌, ◌+◌, ◌-◌, ◌≤◌, true, false, List, map}
 use Rattle.std.proofs.Common.{ap, sym, ◌∙◌, arith}
 use Rattle.std.proofs.lemmas.Bool.{true≢false}
 use Rattle.event_model.specs.declared.events.Event.{Event}
@@ -16,6 +16,12 @@ pub stands_on : (s : State) (p : Parts) → state_works s ≡ true → Stands s 
 stands_on Resting p e h = absurd (true≢false (sym e))
 stands_on Working p e h = h
 stands_on Broken p e h = absurd (true≢false (sym e))
+
+-- between changes nothing is asked of them
+pub stands_idle : (s : State) (p : Parts) → state_works s ≡ false → Stands s p
+stands_idle Resting p e = tt
+stands_idle Working p e = absurd (true≢false e)
+stands_idle Broken p e = tt
 
 -- ---- how many visits were made
 

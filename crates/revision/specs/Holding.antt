@@ -19,6 +19,7 @@ use Rattle.change_meaning.specs.Keys.{IsWorkable}
 use Rattle.change_meaning.specs.Moved.{IsMoved}
 use Rattle.change_meaning.specs.Shown.{signed_rows}
 use Rattle.change_meaning.specs.Turns.{plan_visits}
+use Rattle.goal_store.specs.Goals.{sum_below}
 use Rattle.step_work.specs.Views.{View}
 use Rattle.revision.specs.Works.{Hand, HasRows, OnCourse}
 
@@ -26,6 +27,10 @@ use Rattle.revision.specs.Works.{Hand, HasRows, OnCourse}
 pub record Holds (h : Hand) (b : ℕ) (E : List Event) : Type 0 where
   pub workable : IsWorkable h.steps
   pub rows : HasRows h.view (kept_rows h.steps h.caps b E) (kept_count h.steps h.caps b E)
+
+-- how many rows all steps have
+abbrev pub rows_held : List PlainStep → PlainCaps → ℕ → List Event → ℕ
+rows_held steps caps b E = sum_below (λ i. length (kept_rows steps caps b E i)) (length steps)
 
 -- it holds E, and the changes lead to F, neither before the bound; and with the kept rows of either no support is lost
 pub record CanBegin (h : Hand) (b : ℕ) (E F : List Event) (es : List EventChange) : Type 0 where

@@ -1,23 +1,28 @@
 -- The parts of a work: what they have in hand, and what turns make of them.
 --     hand p              what they have in hand
 --     IsReady p           what is so at any time
+--     IsDue p b E         the expiries are those of the kept rows over E at b
 --     Goes p c left       they are on the course c, with so many visits left
 --     IsOver p            all that the step under way gives is noted
 use Rattle.std.specs.Prelude.{ℕ, ◌≡◌, ◌+◌, ◌<◌, ◌≤◌, ◌^◌, Bool, true, false, Option, Some, None, List, [], length, map, slice_get}
 use Rattle.std.specs.declared.alloc.Global.{Global}
 use Rattle.std.specs.declared.vec.Vec.{Vec}
+use Rattle.ordered_lists.specs.Canon.{has}
+use Rattle.event_model.specs.declared.events.Event.{Event}
 use Rattle.event_changes.specs.declared.changes.Sign.{Sign}
+use Rattle.ev_bind.specs.Rows.{row_cmp}
 use Rattle.ev_bind.specs.declared.rows.Row.{Row}
 use Rattle.rule_ast.specs.PlainPlans.{PlainStep, plain_step}
 use Rattle.pattern_meaning.specs.Replies.{Change}
 use Rattle.step_meaning.specs.StepRows.{step_at}
 use Rattle.row_changes.specs.Visits.{Visit, tally}
-use Rattle.change_meaning.specs.Caps.{caps_in}
+use Rattle.change_meaning.specs.Caps.{caps_in, kept_rows}
 use Rattle.change_meaning.specs.Courses.{Course, given}
 use Rattle.change_meaning.specs.Keys.{slots_at}
 use Rattle.support_table.specs.Supports.{count_of}
 use Rattle.goal_store.specs.Goals.{steps_of, indexes_of}
 use Rattle.goal_store.specs.declared.kept.GoalStore.{GoalStore}
+use Rattle.goal_purge.specs.Expiring.{Follows}
 use Rattle.step_changes.specs.declared.deltas.Delta.{Delta}
 use Rattle.step_changes.specs.Notes.{noted}
 use Rattle.step_changes.specs.Tasks.{at_left}
@@ -59,6 +64,10 @@ pub record IsReady (p : Parts) : Type 0 where
   pub few : length p.plan.steps.items < 2 ^ 32
   pub none : (s : Sign) (r : Row) → noted p.spare s r ≡ 0
 
+-- its expiries are those of the kept rows over the events E at the bound b
+abbrev pub IsDue : Parts → ℕ → List Event → Type 0
+IsDue p b E = Follows (caps_in p.caps) (λ s r. has row_cmp r (kept_rows (steps_in p) (caps_in p.caps) b E s)) p.expiries
+
 -- they are on a course, and ready for the rest of it
 pub record Goes (p : Parts) (c : Course) (left : ℕ) : Type 0 where
   pub on : OnCourse (hand p) c left
@@ -78,10 +87,11 @@ pub record IsOver (p : Parts) : Type 0 where
   pub all : (s : Sign) (r : Row) → settled step ((hand p).view.count p.finished) (noted p.pending) s r
       ≡ tally s r (given ((hand p).caps.cap p.finished) (slots_at (steps_in p)) step course p.events.items)
 
--- the plan, the caps and what was told last stay
+-- the plan, the caps, the expiries and what was told last stay
 pub record Stays (old new : Parts) : Type 0 where
   pub plan : new.plan ≡ old.plan
   pub caps : new.caps ≡ old.caps
+  pub expiries : new.expiries ≡ old.expiries
   pub gone : new.gone ≡ old.gone
   pub come : new.come ≡ old.come
   pub made : new.made ≡ old.made

@@ -1,6 +1,7 @@
 pub mod Works
 pub mod Holding
 pub mod Lists
+pub mod Following
 pub mod Idle
 pub mod Names
 pub mod InHand

@@ -8,7 +8,7 @@ use Rattle.change_meaning.specs.Caps.{caps_in}
 use Rattle.change_meaning.specs.Courses.{course_of}
 use Rattle.change_meaning.specs.Shown.{shown_change}
 use Rattle.revision.specs.Holding.{Holds, WorksTo, counted}
-use Rattle.revision.specs.InHand.{steps_in, hand, IsReady, told_in}
+use Rattle.revision.specs.InHand.{steps_in, hand, IsReady, IsDue, told_in}
 use Rattle.revision.specs.declared.parts.Parts.{Parts}
 
 -- so many visits are left
@@ -33,3 +33,8 @@ pub record Ends (old new : Parts) (b : ℕ) (E F : List Event) (left units : ℕ
 abbrev pub PartsTurned : (old new : Parts) (b : ℕ) (E F : List Event) (left units : ℕ) → Progress → Type 0
 PartsTurned old new b E F left units More = GoesOn old new b E F left units
 PartsTurned old new b E F left units Done = Ends old new b E F left units
+
+-- the expiries follow once all are made
+abbrev pub DueTurned : (new : Parts) (b : ℕ) (E F : List Event) → Progress → Type 0
+DueTurned new b E F More = IsDue new b E
+DueTurned new b E F Done = IsDue new b F

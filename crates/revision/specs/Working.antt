@@ -16,7 +16,7 @@ use Rattle.change_meaning.specs.Moved.{IsMoved}
 use Rattle.goal_store.specs.Goals.{number_of}
 use Rattle.revision.specs.Works.{Hand, hand_left}
 use Rattle.revision.specs.Holding.{Holds, CanBegin, WorksTo, visits_to, counted}
-use Rattle.revision.specs.InHand.{hand, IsReady, state_works, state_breaks, told_in}
+use Rattle.revision.specs.InHand.{hand, IsReady, IsDue, state_works, state_breaks, told_in}
 use Rattle.revision.specs.declared.work.Work.{Work}
 
 -- ---- what it has
@@ -40,6 +40,10 @@ plan_of_work w = record { steps = steps_of w; indexes = plan_indexes (steps_of w
 -- its parts fit together
 unfoldable pub IsFit : Work → Type 0
 IsFit w = IsReady w.parts
+
+-- its expiries are those of the kept rows over the events E at the bound b
+unfoldable pub HasDue : Work → ℕ → List Event → Type 0
+HasDue w b E = IsDue w.parts b E
 
 -- what the last changes that are done have taken away and brought
 unfoldable pub change_of : Work → Change
@@ -72,18 +76,21 @@ pub record SamePlanOf (old new : Work) : Type 0 where
 
 pub record WorkHolds (w : Work) (b : ℕ) (E : List Event) : Type 0 where
   pub holds : Holds (hand_of w) b E
+  pub due : HasDue w b E
   pub fit : IsFit w
   pub resting : is_working w ≡ false
   pub unbroken : is_broken w ≡ false
 
 pub record CanWork (w : Work) (b : ℕ) (E F : List Event) (es : List EventChange) : Type 0 where
   pub can : CanBegin (hand_of w) b E F es
+  pub due : HasDue w b E
   pub fit : IsFit w
   pub resting : is_working w ≡ false
   pub unbroken : is_broken w ≡ false
 
 pub record WorkGoes (w : Work) (b : ℕ) (E F : List Event) (left : ℕ) : Type 0 where
   pub works : WorksTo (hand_of w) b E F left
+  pub due : HasDue w b E
   pub fit : IsFit w
   pub made : made_of w ≡ counted (visits_to (steps_of w) (caps_of w) b E F - left)
   pub working : is_working w ≡ true
@@ -102,6 +109,7 @@ pub can_work : (w : Work) (b : ℕ) (E F : List Event) (es : List EventChange) �
     → NoLossOver (steps_of w) (caps_of w) b E → NoLossOver (steps_of w) (caps_of w) b F → CanWork w b E F es
 can_work w b E F es h moved old new = record {
   can = record { holds = h.holds; moved = moved; old_whole = old; new_whole = new };
+  due = h.due;
   fit = h.fit;
   resting = h.resting;
   unbroken = h.unbroken;

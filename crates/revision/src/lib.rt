@@ -2,7 +2,9 @@
 #![tactic(auto)]
 
 mod applying;
+mod expiring;
 mod idling;
+mod limits;
 mod lists;
 mod making;
 mod parts;

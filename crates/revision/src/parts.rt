@@ -1,5 +1,5 @@
 // What a work has in hand, and the work on it.
-ghost use Rattle.std.specs.Prelude.{◌≡◌, ◌+◌, ◌<◌, ◌^◌, ℕ, List, [], length, map, IfOk, OnOk, Some};
+ghost use Rattle.std.specs.Prelude.{◌≡◌, ◌+◌, ◌<◌, ◌^◌, ℕ, max, List, [], length, map, IfOk, OnOk, Some};
 ghost use Rattle.event_model.specs.declared.events.Event.{Event};
 ghost use Rattle.event_changes.specs.declared.changes.Progress.TheVariants.{More, Done};
 ghost use Rattle.rule_ast.specs.PlainPlans.{PlainStep, plain_step, plain_index};
@@ -12,16 +12,19 @@ ghost use Rattle.step_work.specs.Stepping.{StepWork};
 ghost use Rattle.revision.specs.Works.{cap_of, Finishes, IsFurther, hand_left};
 ghost use Rattle.revision.specs.Holding.{Holds, CanBegin, WorksTo, visits_to};
 ghost use Rattle.revision.specs.Idle.{IsIdle};
-ghost use Rattle.revision.specs.InHand.{steps_in, hand, IsReady, Goes, IsOn, IsOver, Stays, StepGoes, AllGo, IsLess, told_in};
-ghost use Rattle.revision.specs.PartsTurned.{PartsTurned};
+ghost use Rattle.revision.specs.InHand.{steps_in, hand, IsReady, IsDue, Goes, IsOn, IsOver, Stays, StepGoes, AllGo, IsLess, told_in};
+ghost use Rattle.revision.specs.PartsTurned.{PartsTurned, DueTurned};
 
 use crate::applying::{apply_notes, settle_notes};
+use crate::expiring::follow_changes;
 use crate::idling::is_idle;
+use crate::limits::cap_at;
 use crate::lists::clear_rows;
 use crate::making::empty_lists;
 use crate::telling::tell_change;
 use event_changes::{EventChange, Progress};
 use event_model::Detection;
+use goal_purge::{Expiries, purge};
 use goal_store::GoalStore;
 use row_changes::CapList;
 use rule_ast::{Plan, StepId};
@@ -38,7 +41,7 @@ pub(crate) enum State {
     Broken,
 }
 
-/// The plan with its caps and ways, the rows of its steps and their counts, and how far the changes in hand have come.
+/// The plan with its caps and ways, the rows of its steps with their counts and expiries, and how far the changes in hand have come.
 #[derive(Drop)]
 pub(crate) struct Parts {
     pub(crate) alloc: Global,
@@ -47,6 +50,8 @@ pub(crate) struct Parts {
     pub(crate) ways: Vec<StepWay>,
     pub(crate) goals: GoalStore,
     pub(crate) supports: Supports,
+    // Those of the rows before the changes in hand.
+    pub(crate) expiries: Expiries,
     pub(crate) events: Vec<EventChange>,
     // The changed rows of each step that is finished. The lists are kept for the next changes.
     pub(crate) changed: Vec<Vec<Delta>>,
@@ -60,15 +65,6 @@ pub(crate) struct Parts {
     pub(crate) made: u128,
 }
 
-fn cap_at(caps: &CapList, at: usize) -> Option<u64>
-    ensures { result ≡ (caps_in caps.now).cap at }
-{
-    if at < caps.cap.len() {
-        return caps.cap[at];
-    }
-    None
-}
-
 impl Parts {
     /// Without rows, and without changes in hand.
     pub(crate) fn new(alloc: Global, plan: Plan, caps: CapList) -> Result<Parts, AllocError>
@@ -76,6 +72,7 @@ impl Parts {
         requires indexes { map plain_index plan.indexes.items ≡ plan_indexes (map plain_step plan.steps.items) }
         requires few { length plan.steps.items < 2 ^ 32 }
         ensures holds { (b : ℕ) → IfOk result (λ p. Holds (hand p) b []) }
+        ensures due { (b : ℕ) → IfOk result (λ p. IsDue p b []) }
         ensures ready { IfOk result (λ p. IsReady p) }
         ensures plan { IfOk result (λ p. p.plan ≡ plan) }
         ensures caps { IfOk result (λ p. p.caps ≡ caps) }
@@ -92,6 +89,7 @@ impl Parts {
             ways,
             goals,
             supports: Supports::new(alloc),
+            expiries: Expiries::new(alloc),
             events: Vec::new(alloc),
             changed,
             finished: 0,
@@ -108,6 +106,7 @@ impl Parts {
     pub(crate) fn begin(&mut self, changes: Vec<EventChange>)
         ensures works { (b : ℕ) (E F : List Event) → CanBegin (hand self.old) b E F changes.items → IsReady self.old
             → WorksTo (hand self.new) b E F (visits_to (steps_in self.old) (caps_in self.old.caps) b E F) }
+        ensures due { (b : ℕ) (E : List Event) → IsDue self.old b E → IsDue self.new b E }
         ensures ready { IsReady self.old → IsReady self.new }
         ensures plan { self.new.plan ≡ self.old.plan }
         ensures caps { self.new.caps ≡ self.old.caps }
@@ -232,6 +231,8 @@ impl Parts {
         requires { ∥ IsOn self.old ∥₁ }
         ensures turned { (b : ℕ) (E F : List Event) (left : ℕ) → WorksTo (hand self.old) b E F left → IsReady self.old
             → IfOk result (λ p. PartsTurned self.old self.new b E F left units p) }
+        ensures due { (b : ℕ) (E F : List Event) (left : ℕ) → WorksTo (hand self.old) b E F left → IsReady self.old → IsDue self.old b E
+            → IfOk result (λ p. DueTurned self.new b E F p) }
         ensures on { IfOk result (λ p. p ≡ More → ∥ IsOn self.new ∥₁) }
         ensures kept { IfOk result (λ p. p ≡ More → told_in self.new ≡ told_in self.old) }
         ensures less { IfOk result (λ p. p ≡ More → 0 < units → hand_left (hand self.new) < hand_left (hand self.old)) }
@@ -251,10 +252,27 @@ impl Parts {
                     &mut self.gone,
                     &mut self.come,
                 )?;
+                follow_changes(&mut self.expiries, &self.caps, &self.changed)?;
                 self.goals.settle();
                 self.made = self.made.saturating_add(units.saturating_sub(rest) as u128);
                 Ok(Progress::Done)
             }
         }
+    }
+
+    /// Drops the rows that are not kept at a bound, with their counts and expiries.
+    pub(crate) fn sweep(&mut self, bound: u64)
+        ensures holds { (b : ℕ) (E : List Event) → Holds (hand self.old) b E → IsDue self.old b E
+            → Holds (hand self.new) (max b bound) E }
+        ensures due { (b : ℕ) (E : List Event) → Holds (hand self.old) b E → IsDue self.old b E → IsDue self.new (max b bound) E }
+        ensures ready { IsReady self.old → IsReady self.new }
+        ensures rest { self.new ≡ record self.old { goals = self.new.goals; supports = self.new.supports; expiries = self.new.expiries } }
+    {
+        purge(
+            &mut self.goals,
+            &mut self.supports,
+            &mut self.expiries,
+            bound,
+        );
     }
 }

@@ -10,7 +10,7 @@ use std::alloc::{AllocError, Global};
 
 /// Holds the kept rows of all steps of a plan over a set of events, and takes changes of the events through the steps: each list of
 /// changes by a `begin`, and then by turns until one is `Done`. A turn makes no more visits than it has units. A turn that finds no
-/// memory leaves a work that is broken, which takes nothing more.
+/// memory leaves a work that is broken, which takes nothing more. Between changes a `sweep` raises the bound.
 #[derive(Drop)]
 pub struct Work {
     parts: Parts,
@@ -19,7 +19,7 @@ pub struct Work {
 }
 
 impl Work {
-    ghost use Rattle.std.specs.Prelude.{◌≡◌, ◌+◌, ◌<◌, ◌^◌, ℕ, List, [], length, map, true, false, IfOk, OnOk, OnErr};
+    ghost use Rattle.std.specs.Prelude.{◌≡◌, ◌+◌, ◌<◌, ◌^◌, ℕ, max, List, [], length, map, true, false, IfOk, OnOk, OnErr};
     ghost use Rattle.event_model.specs.declared.events.Event.{Event};
     ghost use Rattle.event_changes.specs.Told.{changes_left, signed};
     ghost use Rattle.event_changes.specs.declared.changes.Progress.TheVariants.{More, Done};
@@ -29,7 +29,7 @@ impl Work {
     ghost use Rattle.change_meaning.specs.Courses.{course_of};
     ghost use Rattle.change_meaning.specs.Keys.{IsWorkable};
     ghost use Rattle.change_meaning.specs.Shown.{shown_change};
-    ghost use Rattle.revision.specs.Holding.{visits_to};
+    ghost use Rattle.revision.specs.Holding.{visits_to, rows_held};
     ghost use Rattle.revision.specs.Working.{steps_of, caps_of, shown_of, plan_of_work, change_of, made_of, held_of, is_working, is_broken};
     ghost use Rattle.revision.specs.Working.{work_left, SamePlanOf, WorkHolds, CanWork, WorkGoes, WorkTurned};
 
@@ -100,6 +100,19 @@ impl Work {
         }
     }
 
+    /// Drops the rows that are not kept at a bound, with their counts. It takes no memory.
+    pub fn sweep(&mut self, bound: u64)
+        requires resting { is_working self.old ≡ false }
+        ensures holds { (b : ℕ) (E : List Event) → WorkHolds self.old b E → WorkHolds self.new (max b bound) E }
+        ensures change { change_of self.new ≡ change_of self.old }
+        ensures made { made_of self.new ≡ made_of self.old }
+        ensures working { is_working self.new ≡ false }
+        ensures broken { is_broken self.new ≡ is_broken self.old }
+        ensures plan { SamePlanOf self.old self.new }
+    {
+        self.parts.sweep(bound);
+    }
+
     /// The detections that the last changes that are done have taken away, in order.
     #[tactic(auto, unfolding(crate::specs::Working::change_of))]
     pub fn gone(&self) -> &[Detection]
@@ -157,7 +170,9 @@ impl Work {
     /// The number of rows of all steps. While changes are in hand it counts those that come and those that go.
     #[tactic(auto, unfolding(crate::specs::Working::held_of))]
     pub fn held_rows(&self) -> usize
-        ensures { result ≡ held_of self.now }
+        ensures number { result ≡ held_of self.now }
+        ensures held { (b : ℕ) (E : List Event) → WorkHolds self.now b E
+            → result ≡ rows_held (steps_of self.now) (caps_of self.now) b E }
     {
         self.parts.goals.held()
     }

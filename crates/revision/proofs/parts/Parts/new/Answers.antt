@@ -1,7 +1,11 @@
-use Rattle.std.proofs.Common.{◌∙◌, sym, subst, map}
+use Rattle.std.proofs.Common.{◌&&◌, ◌∙◌, sym, subst, map}
+use Rattle.ordered_lists.specs.Canon.{has}
+use Rattle.ev_bind.specs.Rows.{row_cmp}
 use Rattle.rule_ast.specs.PlainPlans.{plain_step}
 use Rattle.change_meaning.specs.Caps.{caps_in}
+use Rattle.goal_purge.specs.Expiring.{expires_at}
 use Rattle.step_work.specs.Ways.{AreWays}
+use Rattle.revision.proofs.HoldLaws.{no_kept_rows}
 use Rattle.revision.proofs.NewLaws.{rows_none}
 use Rattle.revision.proofs.parts.Parts.new.Goals as goal
 
@@ -19,5 +23,12 @@ returns-clause-ready c = record {
   stored = c.in_ok-goals.ensures.steps;
   listed = c.in_ok-changed.ensures ∙ c.len.ensures ∙ c.args.plan.steps.ok.0;
   few = c.requires.few;
-  none = c.new-5.ensures;
+  none = c.new-6.ensures;
 }
+
+pub returns-clause-due : goal.returns-clause-due
+returns-clause-due c = λ b d s r.
+    c.new-3.ensures d s r
+    ∙ (λ i. let caps = caps_in c.args.caps in
+    has row_cmp r (sym (no_kept_rows (map plain_step c.args.plan.steps.items) c.requires.workable.lower caps b s) i)
+    && expires_at (caps.cap s) (caps.reach s) r.span d)

@@ -5,14 +5,15 @@ use Rattle.change_meaning.specs.Caps.{caps_in}
 use Rattle.change_meaning.specs.Courses.{course_of}
 use Rattle.revision.specs.Holding.{visits_to}
 use Rattle.revision.specs.InHand.{steps_in}
-use Rattle.revision.specs.Working.{hand_of, shown_of, IsFit, change_of, made_of, is_working, is_broken}
+use Rattle.revision.specs.Working.{hand_of, shown_of, IsFit, HasDue, change_of, made_of, is_working, is_broken}
 use Rattle.revision.proofs.WorkLaws.{made_none}
 use Rattle.revision.proofs.work.Work.begin.Goals as goal
 
 pub returns-clause-works : goal.returns-clause-works
-unfolding hand_of IsFit made_of is_working is_broken
+unfolding hand_of IsFit HasDue made_of is_working is_broken
 returns-clause-works c = λ b E F can. let done = c.begin.ensures in record {
   works = done.works b E F can.can can.fit;
+  due = done.due b E can.due;
   fit = done.ready can.fit;
   made = made_none c.args.self.now.parts c.begin.new.self done.plan done.caps b E F done.made;
   working = refl;

@@ -1,13 +1,14 @@
 use Rattle.std.proofs.Common.{refl, ap, map}
 use Rattle.rule_ast.specs.PlainPlans.{plain_step}
 use Rattle.change_meaning.specs.Caps.{caps_in}
-use Rattle.revision.specs.Working.{hand_of, shown_of, IsFit, change_of, made_of, is_working, is_broken}
+use Rattle.revision.specs.Working.{hand_of, shown_of, IsFit, HasDue, change_of, made_of, is_working, is_broken}
 use Rattle.revision.proofs.work.Work.new.Goals as goal
 
 pub returns-clause-holds : goal.returns-clause-holds
-unfolding hand_of IsFit is_working is_broken
+unfolding hand_of IsFit HasDue is_working is_broken
 returns-clause-holds c = λ b. record {
   holds = c.in_ok-parts.ensures.holds b;
+  due = c.in_ok-parts.ensures.due b;
   fit = c.in_ok-parts.ensures.ready;
   resting = refl;
   unbroken = refl;
