@@ -26,4 +26,6 @@ mod terms;
 #[cfg(test)]
 mod tokens;
 #[cfg(test)]
+mod turns;
+#[cfg(test)]
 mod writes;

@@ -1,15 +1,14 @@
 -- What an engine stands for and works from, from input to input.
-use Rattle.std.proofs.Common.{◌≡◌, ◌≤◌, ◌+◌, ◌<◌, ◌&&◌, ◌++◌, ◌∷◌, [], ℕ, Option, Some, None, List, Bool, true, false, not, refl, sym, ap, ◌∙◌, subst, inl, inr, arith, map}
-use Rattle.std.specs.Prelude.{◌⊎◌, get_or}
+use Rattle.std.proofs.Common.{◌≡◌, ◌&&◌, ◌++◌, ◌∷◌, [], ℕ, Option, Some, None, List, Bool, true, false, not, refl, sym, ap, ◌∙◌, subst, inl, inr, arith}
+use Rattle.std.specs.Prelude.{◌⊎◌, max, nat_lt, get_or, if◌then◌else◌}
 use Rattle.std.specs.List.{flat_map}
-use Rattle.std.proofs.Math.Bool.{not-not}
 use Rattle.std.proofs.lemmas.Bool.{true≢false}
 use Rattle.ordered_lists.specs.Canon.{has}
 use Rattle.ordered_lists.specs.Lists.{Each, Each-append}
 use Rattle.ordered_lists.specs.Members.{Each_has}
-use Rattle.event_model.specs.Events.{span_of}
+use Rattle.event_model.specs.Events.{span_of, time_of}
 use Rattle.event_model.specs.declared.events.Event.{Event}
-use Rattle.event_model.specs.Presence.{History, added, settled, all_inputs, batch_inputs, extended, settles, present, judge, IsAccepted, OneMore}
+use Rattle.event_model.specs.Presence.{History, added, settled, all_inputs, batch_inputs, extended, settles, copies, present, bound, judge, IsAccepted, OneMore}
 use Rattle.event_model.specs.declared.inputs.Input.{Input}
 use Rattle.event_model.specs.declared.inputs.Input.TheVariants.{Add, Take, Advance, Nothing, Begin, Commit}
 use Rattle.event_model.specs.declared.inputs.Judgement.TheVariants.{Fine}
@@ -26,31 +25,33 @@ use Rattle.pattern_meaning.specs.Standing.{standing}
 use Rattle.step_meaning.specs.NamedSteps.{plan_lower}
 use Rattle.step_meaning.specs.Operands.{AreLower}
 use Rattle.step_meaning.specs.PlanOf.{plan_of, plan_steps, plan_indexes}
+use Rattle.step_meaning.specs.PastRows.{IsSameBelow}
 use Rattle.step_meaning.specs.StepRows.{step_at, step_rows}
 use Rattle.row_changes.specs.Kept.{under}
 use Rattle.row_changes.specs.declared.caps.Reach.TheVariants.{Free}
-use Rattle.change_meaning.specs.Caps.{PlainCaps, caps_in, fits, NoLossOver}
+use Rattle.change_meaning.specs.Caps.{caps_in, fits, NoLossOver}
 use Rattle.change_meaning.specs.Courses.{course_of}
-use Rattle.change_meaning.specs.Moved.{AreLate, AreSpans, IsMoved}
+use Rattle.change_meaning.specs.Moved.{AreSpans, IsMoved}
 use Rattle.change_meaning.specs.Shown.{shown_change, AreShownWhole}
-use Rattle.change_meaning.proofs.EventLaws.{changes_moved, present_rises}
+use Rattle.change_meaning.proofs.EventLaws.{changes_follow, present_rises}
 use Rattle.change_meaning.proofs.ShownLaws.{change_is_shown}
-use Rattle.horizon_meaning.specs.Caps.{AreCaps, is_among}
+use Rattle.horizon_meaning.specs.Caps.{is_among}
 use Rattle.horizon_meaning.specs.Fits.{no_rows}
 use Rattle.horizon_meaning.specs.Histories.{present_spans}
 use Rattle.horizon_meaning.specs.Listed.{cap_is, no_support_lost}
 use Rattle.horizon_meaning.specs.NoLoss.{in_cap}
 use Rattle.horizon_meaning.specs.Sound.{shown_in_cap}
 use Rattle.horizon_meaning.specs.Users.{each_among}
-use Rattle.revision.specs.Holding.{visits_to}
+use Rattle.revision.specs.Holding.{visits_to, rows_held}
 use Rattle.revision.specs.Working.{steps_of, caps_of, shown_of, plan_of_work, change_of, can_work, SamePlanOf, WorkHolds, CanWork, WorkGoes}
 use Rattle.revision.specs.Working as work
 use Rattle.revision.specs.declared.work.Work.{Work}
 use Rattle.etalis_core.specs.declared.engine.Engine.{Engine}
 use Rattle.etalis_core.specs.declared.ledger.Ledger.{Ledger}
-use Rattle.etalis_core.specs.Kept.{IsLedgerOf}
-use Rattle.etalis_core.specs.StandsFor.{rules_of, late_of, is_working, is_spent, last_change, caps_for, visits_by, IsWorkOf, HaveSpans, StandsFor, WorksFrom, CanBegin}
-use Rattle.etalis_core.proofs.HistoryLaws.{own, fine_parts, all_inputs_next, judged_alike, settled_all, settled_same, settles_outside}
+use Rattle.etalis_core.specs.Kept.{number_of, HasRoom, IsLedgerOf}
+use Rattle.etalis_core.specs.StandsFor.{rules_of, late_of, is_working, is_spent, caps_for, horizon, visits_by, IsWorkOf, HaveSpans, StandsFor, WorksFrom, CanBegin}
+use Rattle.etalis_core.proofs.HistoryLaws.{own, fine_parts, all_inputs_next, same_below_next, judged_alike, settled_all, settled_same}
+use Rattle.etalis_core.proofs.LedgerLaws.{room_kept}
 
 -- ---- spans
 
@@ -105,6 +106,10 @@ module _ (w : Work) (rules : List PlainStatement) (is : IsWorkOf w rules) where
   pub same_visits : (b : ℕ) (E F : List Event) → visits_to (steps_of w) (caps_of w) b E F ≡ visits_to (plan_steps rules) (caps_for rules) b E F
   same_visits b E F i = visits_to (same_steps i) (same_caps i) b E F
 
+  -- and so are the rows that are kept
+  pub same_rows : (b : ℕ) (E : List Event) → rows_held (steps_of w) (caps_of w) b E ≡ rows_held (plan_steps rules) (caps_for rules) b E
+  same_rows b E i = rows_held (same_steps i) (same_caps i) b E
+
   module _ (b : ℕ) (events : List Event) (spans : AreSpans events) where
     -- no support is lost
     no_loss : NoLossOver (steps_of w) (caps_of w) b events
@@ -138,29 +143,26 @@ module _ (w : Work) (rules : List PlainStatement) (is : IsWorkOf w rules) where
 
 -- ---- one change of events
 
-never_late : (es : List EventChange) → AreLate 0 es
-never_late [] = tt
-never_late (e ∷ es) = (omega arith, never_late es)
-
-module _ (w : Work) (rules : List PlainStatement) (is : IsWorkOf w rules) (before after : List Input) (sb : HaveSpans before) (sa : HaveSpans after) where
+module _ (w : Work) (rules : List PlainStatement) (is : IsWorkOf w rules) (b : ℕ) (before after : List Input) (sb : HaveSpans before) (sa : HaveSpans after)
+    (same : IsSameBelow b (present before) (present after)) where
   abbrev E : List Event
   E = present before
 
   abbrev F : List Event
   F = present after
 
-  moved : IsMoved 0 E F (event_changes E F)
-  moved = changes_moved E F (present_rises before) (present_rises after) 0 (never_late (event_changes E F)) (present_spans before sb) (present_spans after sa)
+  moved : IsMoved b E F (event_changes E F)
+  moved = changes_follow b E F (present_rises before) (present_rises after) same (present_spans before sb) (present_spans after sa)
 
   -- a work that holds the events of some inputs can begin the changes to those of others
-  pub may_begin : WorkHolds w 0 E → CanWork w 0 E F (event_changes E F)
-  may_begin holds = can_work w 0 E F (event_changes E F) holds moved (no_loss w rules is 0 E (present_spans before sb)) (no_loss w rules is 0 F (present_spans after sa))
+  pub may_begin : WorkHolds w b E → CanWork w b E F (event_changes E F)
+  may_begin holds = can_work w b E F (event_changes E F) holds moved (no_loss w rules is b E (present_spans before sb)) (no_loss w rules is b F (present_spans after sa))
 
   -- what changes of the shown rows is what changes of what stands
-  pub tells_change : shown_change (plan_of_work w) (course_of (steps_of w) (caps_of w) 0 E F) ≡ change_between (standing rules E) (standing rules F)
+  pub tells_change : shown_change (plan_of_work w) (course_of (steps_of w) (caps_of w) b E F) ≡ change_between (standing rules E) (standing rules F)
   tells_change =
-      (λ i. shown_change (is.plan i) (course_of (same_steps w rules is i) (caps_of w) 0 E F))
-      ∙ sym (change_is_shown rules is.ranking E F (caps_of w) 0 (event_changes E F) moved (whole w rules is 0 E (present_spans before sb)) (whole w rules is 0 F (present_spans after sa)))
+      (λ i. shown_change (is.plan i) (course_of (same_steps w rules is i) (caps_of w) b E F))
+      ∙ sym (change_is_shown rules is.ranking E F (caps_of w) b (event_changes E F) moved (whole w rules is b E (present_spans before sb)) (whole w rules is b F (present_spans after sa)))
 
 -- ---- from input to input
 
@@ -168,24 +170,38 @@ module _ (w : Work) (rules : List PlainStatement) (is : IsWorkOf w rules) (befor
 works_so : (engine : Engine) (b : Bool) → is_spent engine ≡ false → work.is_working engine.work ≡ b → is_working engine ≡ b
 works_so engine b unspent is = λ i. not (unspent i) && is i
 
+-- two histories of one ledger have the same copies from the bound on
+same_copies : (ledger : Ledger) (late : Option ℕ) (h other : History) → IsLedgerOf ledger late (settled h) h → IsLedgerOf ledger late (settled other) other
+    → (e : Event) → nat_lt (time_of e) (bound late (settled h)) ≡ false → copies (all_inputs h) e ≡ copies (all_inputs other) e
+same_copies ledger late h other l m e here =
+    let there : nat_lt (time_of e) (bound late (settled other)) ≡ false = ap (nat_lt (time_of e)) (sym m.told_bound ∙ l.told_bound) ∙ here in
+    sym (l.numbers e ∙ ap (λ c. if c then 0 else copies (all_inputs h) e) here) ∙ m.numbers e ∙ ap (λ c. if c then 0 else copies (all_inputs other) e) there
+
 -- an input that may begin is fine after each history that the engine stands for
 pub fine_for_all : (engine : Engine) (h : History) (input : Input) → (is_spent engine ≡ true) ⊎ ((other : History) × CanBegin engine other input) → StandsFor engine h
     → judge (late_of engine) h input ≡ Fine
 fine_for_all engine h input (inl spent) s = absurd (true≢false (sym spent ∙ s.not_spent))
 fine_for_all engine h input (inr (other, can)) s =
     judged_alike (late_of engine) h other input (sym s.ledger.batch ∙ can.stands.ledger.batch) (sym s.ledger.told_bound ∙ can.stands.ledger.told_bound)
-    (λ e. sym (s.ledger.numbers e) ∙ can.stands.ledger.numbers e) ∙ can.fine
+    (same_copies engine.ledger (late_of engine) h other s.ledger can.stands.ledger) ∙ can.fine
+
+-- there is room for it in the ledger
+pub has_room : (engine : Engine) (input : Input) → (is_spent engine ≡ true) ⊎ ((h : History) × CanBegin engine h input) → is_spent engine ≡ false
+    → HasRoom (number_of engine.ledger.present) input
+has_room engine input (inl spent) fresh = absurd (true≢false (sym spent ∙ fresh))
+has_room engine input (inr (h, can)) fresh =
+    room_kept engine.ledger.present (horizon (late_of engine) h) (all_inputs h) input can.stands.ledger.numbers can.room
 
 -- the work that an input begins
 pub starts : (old : Engine) (ledger : Ledger) (h : History) (input : Input) (es : List EventChange) → StandsFor old h
     → judge (late_of old) h input ≡ Fine → AreSpans (added input) → IsLedgerOf ledger (late_of old) (settled h) (extended h input)
     → ((late : Option ℕ) (told : List Input) (h : History) → IsLedgerOf ledger late told h → es ≡ event_changes (present told) (present (all_inputs h)))
-    → CanWork old.work 0 (present (settled h)) (present (all_inputs (extended h input))) es
+    → CanWork old.work (horizon (late_of old) h) (present (settled h)) (present (all_inputs (extended h input))) es
 starts old ledger h input es s fine spans is net =
-    subst (CanWork old.work 0 (present (settled h)) (present (all_inputs (extended h input))))
+    subst (CanWork old.work (horizon (late_of old) h) (present (settled h)) (present (all_inputs (extended h input))))
     (sym (net (late_of old) (settled h) (extended h input) is))
-    (may_begin old.work (rules_of old) s.plan (settled h) (all_inputs (extended h input)) (spans_settled h s.spans)
-    (spans_next (late_of old) h input fine s.spans spans) s.holds)
+    (may_begin old.work (rules_of old) s.plan (horizon (late_of old) h) (settled h) (all_inputs (extended h input)) (spans_settled h s.spans)
+    (spans_next (late_of old) h input fine s.spans spans) (same_below_next (late_of old) h input s.accepted fine) s.holds)
 
 -- what the ledger says of it can be begun
 pub may_start : (old : Engine) (ledger : Ledger) (input : Input) (es : List EventChange)
@@ -195,20 +211,11 @@ pub may_start : (old : Engine) (ledger : Ledger) (input : Input) (es : List Even
     → (b : ℕ) × (E : List Event) × (F : List Event) × CanWork old.work b E F es
 may_start old ledger input es (inl spent) fresh spans followed net = absurd (true≢false (sym spent ∙ fresh))
 may_start old ledger input es (inr (h, can)) fresh spans followed net = (
-  0,
+  horizon (late_of old) h,
   present (settled h),
   present (all_inputs (extended h input)),
   starts old ledger h input es can.stands can.fine spans (followed h can.stands can.fine) net,
 )
-
--- a batch is open behind an input exactly where the input settles nothing
-pub open_where : (ledger : Ledger) (late : Option ℕ) (told : List Input) (h : History) (input : Input) → IsLedgerOf ledger late told (extended h input)
-    → (is_open : Bool) → is_open ≡ ledger.in_batch → is_open ≡ not (settles h input)
-open_where ledger late told h input l is_open e = e ∙ l.batch ∙ settles_outside h input
-
--- so where none is open it settles, and where one is it doesn't
-pub settled_where : (settling is_open b : Bool) → is_open ≡ not settling → is_open ≡ b → settling ≡ not b
-settled_where settling is_open b o is = sym (not-not settling) ∙ ap not (sym o ∙ is)
 
 -- where it settles nothing, it is done
 pub stands_at_once : (old new : Engine) (h : History) (input : Input) → StandsFor old h → judge (late_of old) h input ≡ Fine → settles h input ≡ false
@@ -220,8 +227,9 @@ stands_at_once old new h input s fine nothing spans ledger same rules late unspe
   ledger = subst (λ l. IsLedgerOf new.ledger l (settled (extended h input)) (extended h input)) (sym late)
       (subst (λ told. IsLedgerOf new.ledger (late_of old) told (extended h input)) (sym (settled_same h input nothing)) ledger);
   plan = subst (λ w. IsWorkOf w (rules_of new)) (sym same) (subst (IsWorkOf old.work) (sym rules) s.plan);
-  holds = subst (λ w. WorkHolds w 0 (present (settled (extended h input)))) (sym same)
-      (subst (λ told. WorkHolds old.work 0 (present told)) (sym (settled_same h input nothing)) s.holds);
+  holds = subst (λ l. WorkHolds new.work (bound l (settled (extended h input))) (present (settled (extended h input)))) (sym late)
+      (subst (λ w. WorkHolds w (bound (late_of old) (settled (extended h input))) (present (settled (extended h input)))) (sym same)
+      (subst (λ told. WorkHolds old.work (bound (late_of old) told) (present told)) (sym (settled_same h input nothing)) s.holds));
   not_working = works_so new false unspent (ap work.is_working same ∙ s.holds.resting);
   not_spent = unspent;
 }
@@ -229,8 +237,8 @@ stands_at_once old new h input s fine nothing spans ledger same rules late unspe
 -- an engine that has begun an input that settles something
 pub works_begun : (old new : Engine) (h : History) (input : Input) → StandsFor old h → judge (late_of old) h input ≡ Fine → settles h input ≡ true
     → AreSpans (added input) → IsLedgerOf new.ledger (late_of old) (settled h) (extended h input) → SamePlanOf old.work new.work
-    → WorkGoes new.work 0 (present (settled h)) (present (all_inputs (extended h input)))
-    (visits_to (steps_of old.work) (caps_of old.work) 0 (present (settled h)) (present (all_inputs (extended h input))))
+    → WorkGoes new.work (horizon (late_of old) h) (present (settled h)) (present (all_inputs (extended h input)))
+    (visits_to (steps_of old.work) (caps_of old.work) (horizon (late_of old) h) (present (settled h)) (present (all_inputs (extended h input))))
     → rules_of new ≡ rules_of old → late_of new ≡ late_of old → is_spent new ≡ false
     → WorksFrom new h input (visits_by (rules_of old) (late_of old) h input)
 works_begun old new h input s fine settling spans ledger same goes rules late unspent = record {
@@ -240,15 +248,16 @@ works_begun old new h input s fine settling spans ledger same goes rules late un
   spans = spans_next (late_of old) h input fine s.spans spans;
   ledger = subst (λ l. IsLedgerOf new.ledger l (settled h) (extended h input)) (sym late) ledger;
   plan = subst (IsWorkOf new.work) (sym rules) (plan_stays old.work (rules_of old) s.plan new.work same);
-  goes = subst (WorkGoes new.work 0 (present (settled h)) (present (all_inputs (extended h input))))
-      (same_visits old.work (rules_of old) s.plan 0 (present (settled h)) (present (all_inputs (extended h input)))) goes;
+  goes = subst (λ l. WorkGoes new.work (horizon l h) (present (settled h)) (present (all_inputs (extended h input))) (visits_by (rules_of old) (late_of old) h input)) (sym late)
+      (subst (WorkGoes new.work (horizon (late_of old) h) (present (settled h)) (present (all_inputs (extended h input))))
+      (same_visits old.work (rules_of old) s.plan (horizon (late_of old) h) (present (settled h)) (present (all_inputs (extended h input)))) goes);
   is_begun = works_so new true unspent goes.working;
   not_spent = unspent;
 }
 
 -- the same after a turn that leaves visits
 pub works_on : (old new : Engine) (h : History) (input : Input) (left now : ℕ) → WorksFrom old h input left → SamePlanOf old.work new.work
-    → new.ledger ≡ old.ledger → WorkGoes new.work 0 (present (settled h)) (present (all_inputs (extended h input))) now
+    → new.ledger ≡ old.ledger → WorkGoes new.work (horizon (late_of old) h) (present (settled h)) (present (all_inputs (extended h input))) now
     → rules_of new ≡ rules_of old → late_of new ≡ late_of old → is_spent new ≡ false → WorksFrom new h input now
 works_on old new h input left now w same ledger goes rules late unspent = record {
   accepted = subst (λ l. IsAccepted l h) (sym late) w.accepted;
@@ -258,35 +267,43 @@ works_on old new h input left now w same ledger goes rules late unspent = record
   ledger = subst (λ l. IsLedgerOf new.ledger l (settled h) (extended h input)) (sym late)
       (subst (λ l. IsLedgerOf l (late_of old) (settled h) (extended h input)) (sym ledger) w.ledger);
   plan = subst (IsWorkOf new.work) (sym rules) (plan_stays old.work (rules_of old) w.plan new.work same);
-  goes = goes;
+  goes = subst (λ l. WorkGoes new.work (horizon l h) (present (settled h)) (present (all_inputs (extended h input))) now) (sym late) goes;
   is_begun = works_so new true unspent goes.working;
   not_spent = unspent;
 }
 
--- an engine that has done what it works from
+-- a plan that stays twice stays
+pub same_plan : (old mid new : Work) → SamePlanOf old mid → SamePlanOf mid new → SamePlanOf old new
+same_plan old mid new p q = record { steps = q.steps ∙ p.steps; caps = q.caps ∙ p.caps; shown = q.shown ∙ p.shown }
+
+-- an engine that has done what it works from, and has swept at the bound to which this raised it
 pub stands_done : (old new : Engine) (h : History) (input : Input) (left : ℕ) → WorksFrom old h input left → SamePlanOf old.work new.work
     → IsLedgerOf new.ledger (late_of old) (all_inputs (extended h input)) (extended h input)
-    → WorkHolds new.work 0 (present (all_inputs (extended h input)))
+    → WorkHolds new.work (max (horizon (late_of old) h) new.ledger.bound) (present (all_inputs (extended h input)))
     → rules_of new ≡ rules_of old → late_of new ≡ late_of old → is_spent new ≡ false → StandsFor new (extended h input)
 stands_done old new h input left w same ledger holds rules late unspent =
     let told : all_inputs (extended h input) ≡ settled (extended h input) = sym (settled_all h input w.settling) in
+    let raised : max (horizon (late_of old) h) new.ledger.bound ≡ bound (late_of old) (all_inputs (extended h input)) = omega (arith, ledger.told_bound, w.ledger.rises) in
     record {
       accepted = subst (λ l. IsAccepted l (extended h input)) (sym late) (OneMore h input w.accepted w.fine);
       spans = w.spans;
       ledger = subst (λ l. IsLedgerOf new.ledger l (settled (extended h input)) (extended h input)) (sym late)
           (subst (λ t. IsLedgerOf new.ledger (late_of old) t (extended h input)) told ledger);
       plan = subst (IsWorkOf new.work) (sym rules) (plan_stays old.work (rules_of old) w.plan new.work same);
-      holds = subst (λ t. WorkHolds new.work 0 (present t)) told holds;
+      holds = subst (λ l. WorkHolds new.work (bound l (settled (extended h input))) (present (settled (extended h input)))) (sym late)
+          (subst (λ t. WorkHolds new.work (bound (late_of old) t) (present t)) told
+          (subst (λ b. WorkHolds new.work b (present (all_inputs (extended h input)))) raised holds));
       not_working = works_so new false unspent holds.resting;
       not_spent = unspent;
     }
 
 -- what changed of what stands
 pub change_is : (old : Engine) (h : History) (input : Input) (left : ℕ) → WorksFrom old h input left → (change : Change)
-    → change ≡ shown_change (plan_of_work old.work) (course_of (steps_of old.work) (caps_of old.work) 0 (present (settled h)) (present (all_inputs (extended h input))))
+    → change ≡ shown_change (plan_of_work old.work) (course_of (steps_of old.work) (caps_of old.work) (horizon (late_of old) h) (present (settled h)) (present (all_inputs (extended h input))))
     → change ≡ change_by (rules_of old) h input
 change_is old h input left w change is =
-    is ∙ tells_change old.work (rules_of old) w.plan (settled h) (all_inputs (extended h input)) before w.spans
+    is ∙ tells_change old.work (rules_of old) w.plan (horizon (late_of old) h) (settled h) (all_inputs (extended h input)) before w.spans
+    (same_below_next (late_of old) h input w.accepted w.fine)
     ∙ ap (λ told. change_between (standing (rules_of old) (present (settled h))) (standing (rules_of old) (present told))) (sym (settled_all h input w.settling))
   where
     before : HaveSpans (settled h)

@@ -1,7 +1,8 @@
 -- What an engine stands for and works from: it keeps what a history comes to, and not the history.
-use Rattle.std.specs.Prelude.{◌≡◌, ℕ, Bool, true, false, not, ◌&&◌, Option, None, List, map, get_or}
-use Rattle.std.specs.List.{flat_map}
-use Rattle.event_model.specs.Presence.{History, added, settled, all_inputs, settles, extended, copies, present, judge, IsAccepted}
+use Rattle.std.specs.Prelude.{◌≡◌, ℕ, nat_le, Bool, true, false, not, ◌&&◌, Option, None, List, map, length, get_or}
+use Rattle.std.specs.List.{filter, flat_map}
+use Rattle.event_model.specs.Events.{time_of}
+use Rattle.event_model.specs.Presence.{History, added, settled, all_inputs, settles, extended, copies, present, bound, judge, IsAccepted}
 use Rattle.event_model.specs.declared.inputs.Input.{Input}
 use Rattle.event_model.specs.declared.inputs.Judgement.TheVariants.{Fine}
 use Rattle.rule_ast.specs.Trees.{PlainStatement}
@@ -15,7 +16,7 @@ use Rattle.row_changes.specs.declared.caps.Reach.TheVariants.{Free}
 use Rattle.change_meaning.specs.Caps.{PlainCaps, caps_in}
 use Rattle.change_meaning.specs.Moved.{AreSpans}
 use Rattle.horizon_meaning.specs.Caps.{AreCaps, holds}
-use Rattle.revision.specs.Holding.{visits_to}
+use Rattle.revision.specs.Holding.{visits_to, rows_held}
 use Rattle.revision.specs.Working as work
 use Rattle.revision.specs.Working.{plan_of_work, caps_of, WorkHolds, WorkGoes}
 use Rattle.revision.specs.declared.work.Work.{Work}
@@ -61,14 +62,24 @@ caps_for rules = record {
   reach = λ i. get_or (map (λ h. h.reach) (holds (plan_of rules))) i Free;
 }
 
--- the bound at which rows are kept: nothing is forgotten so far
+-- the bound at which rows are kept, that of the groups
 abbrev pub horizon : Option ℕ → History → ℕ
-horizon late h = 0
+horizon late h = bound late (settled h)
 
 -- how many visits an input makes after a history, from the events that are present by its groups to those after the input
 abbrev pub visits_by : List PlainStatement → Option ℕ → History → Input → ℕ
 visits_by rules late h input =
     visits_to (plan_steps rules) (caps_for rules) (horizon late h) (present (settled h)) (present (all_inputs (extended h input)))
+
+-- ---- how much is kept
+
+-- the rows of all steps that are kept after a history
+abbrev pub rows_kept : List PlainStatement → Option ℕ → History → ℕ
+rows_kept rules late h = rows_held (plan_steps rules) (caps_for rules) (horizon late h) (present (settled h))
+
+-- the events that are present, also by an open batch, with a time of at least the bound
+abbrev pub events_kept : Option ℕ → History → ℕ
+events_kept late h = length (filter (λ e. nat_le (horizon late h) (time_of e)) (present (all_inputs h)))
 
 -- ---- what it keeps of a history
 
@@ -83,7 +94,7 @@ abbrev pub HaveSpans : List Input → Type 0
 HaveSpans inputs = AreSpans (flat_map added inputs)
 
 -- This history is accepted, and all its inputs are done: the ledger is that of the history, and the work holds the events that are
--- present by its groups.
+-- present by its groups, at their bound.
 pub record StandsFor (engine : Engine) (history : History) : Type 0 where
   pub accepted : IsAccepted (late_of engine) history
   pub spans : HaveSpans (all_inputs history)
@@ -94,8 +105,8 @@ pub record StandsFor (engine : Engine) (history : History) : Type 0 where
   pub not_spent : is_spent engine ≡ false
 
 -- This history is accepted, and this input, which is fine after it and settles what came before it, is begun: the ledger is that of
--- the history with the input, and the work goes from the events by the groups of the history to those after the input, with so many
--- visits left.
+-- the history with the input, and the work goes from the events by the groups of the history to those after the input, at the bound
+-- of these groups, with so many visits left.
 pub record WorksFrom (engine : Engine) (history : History) (input : Input) (left : ℕ) : Type 0 where
   pub accepted : IsAccepted (late_of engine) history
   pub fine : judge (late_of engine) history input ≡ Fine

@@ -1,18 +1,19 @@
 // The engine.
 use crate::faults::{EngineFault, StartFault};
+use crate::held::Held;
 use crate::ledger::Ledger;
 use binariser::{PlanFault, binarise};
 use event_changes::{Changes, Progress};
 use event_model::{Detection, Input, Judgement};
 use goal_purge::lengths;
-use pattern_meaning::scratch;
 use revision::Work;
 use rule_check::Checked;
 use std::alloc::{AllocError, Global};
 
 /// Takes inputs one at a time, each by a `begin` and, where the input settles something, by turns until one is `Done`. It tells
-/// then what changed of the detections that stand. An input outside a batch settles itself, and a `Commit` all of its batch. A
-/// call that finds no memory leaves an engine that takes nothing more.
+/// then what changed of the detections that stand, and forgets what no later change can need: copies of events below the bound, and
+/// rows that don't count any more. An input outside a batch settles itself, and a `Commit` all of its batch. A call that finds no
+/// memory leaves an engine that takes nothing more.
 #[derive(Drop)]
 pub struct Engine {
     alloc: Global,
@@ -30,13 +31,14 @@ impl Engine {
     ghost use Rattle.event_model.specs.declared.inputs.Input.{Input};
     ghost use Rattle.event_model.specs.Presence.{History, no_history, settled, in_batch, extended, settles, bound, judge};
     ghost use Rattle.rule_ast.specs.Plain.{plain_rules};
-    ghost use Rattle.pattern_meaning.specs.Replies.{change_by, standing_after};
+    ghost use Rattle.pattern_meaning.specs.Replies.{change_by};
     ghost use Rattle.step_meaning.specs.PlanOf.{plan_of};
     ghost use Rattle.binariser.specs.declared.faults.TheConstants.{MOST_STEPS};
     ghost use Rattle.event_changes.specs.Told.{changes_left, signed};
     ghost use Rattle.event_changes.specs.declared.changes.Progress.TheVariants.{More, Done};
     ghost use Rattle.revision.specs.Holding.{counted};
-    ghost use Rattle.etalis_core.specs.StandsFor.{rules_of, late_of, is_working, is_spent, last_change, visits_of, visits_by, work_left, StandsFor, WorksFrom, CanBegin};
+    ghost use Rattle.etalis_core.specs.StandsFor.{rules_of, late_of, is_working, is_spent, last_change, visits_of, visits_by, work_left};
+    ghost use Rattle.etalis_core.specs.StandsFor.{rows_kept, events_kept, StandsFor, WorksFrom, CanBegin};
 
     /// Before the first input. The lateness is how far the time of an event may lie behind the greatest that came; without one
     /// events raise no bound. Rules whose plan has more than 65,536 steps have no engine.
@@ -144,7 +146,7 @@ impl Engine {
             return Err(EngineFault::Spent);
         }
         self.spent = true;
-        self.ledger.follow(self.late, input)?;
+        self.ledger.follow(self.late, &input)?;
         if self.ledger.in_batch() {
             self.spent = false;
             return Ok(());
@@ -185,6 +187,7 @@ impl Engine {
         match progress {
             Progress::Done => {
                 self.ledger.settle();
+                self.work.sweep(self.ledger.bound());
                 self.spent = false;
                 Ok(Progress::Done)
             }
@@ -204,13 +207,19 @@ impl Engine {
         self.work.visits_made()
     }
 
-    /// What stands after all that is settled, in order and each once. It is found from the events, and takes the time of that.
-    pub fn standing(&self, alloc: Global) -> Result<Vec<Detection>, AllocError>
-        ensures { (history : History) → StandsFor self.now history
-            → IfOk result (λ v. v.items ≡ standing_after (rules_of self.now) history) }
+    /// How many rows and events it keeps. Rows are kept by what is settled, and events with those of an open batch.
+    pub fn held(&self) -> Held
+        requires resting { is_working self.now ≡ false }
+        requires unspent { is_spent self.now ≡ false }
+        ensures rows { (history : History) → StandsFor self.now history
+            → result.rows ≡ rows_kept (rules_of self.now) (late_of self.now) history }
+        ensures events { (history : History) → StandsFor self.now history
+            → result.events ≡ events_kept (late_of self.now) history }
     {
-        let events = self.ledger.settled_events(alloc)?;
-        scratch(alloc, &self.rules, &events)
+        Held {
+            rows: self.work.held_rows(),
+            events: self.ledger.held(),
+        }
     }
 
     /// The detections that the last input for which it worked has taken away, in order.

@@ -2,11 +2,11 @@
 use crate::judging::{is_below, is_in_batch_after, is_misplaced, raised};
 use crate::present::Present;
 use event_changes::EventChange;
-use event_model::{Event, Input, Judgement};
+use event_model::{Input, Judgement};
 use std::alloc::{AllocError, Global};
 
 /// What the inputs come to, those of an open batch too. It knows how the next input is judged, and how the events that are present
-/// differ from those at the last settlement.
+/// differ from those at the last settlement. It keeps no events below the bound.
 #[derive(Drop)]
 pub struct Ledger {
     present: Present,
@@ -16,10 +16,13 @@ pub struct Ledger {
 }
 
 impl Ledger {
-    ghost use Rattle.std.specs.Prelude.{◌≡◌, ℕ, Option, List, [], OnOk, OnErr, IfOk};
+    ghost use Rattle.std.specs.Prelude.{◌≡◌, ℕ, nat_le, Option, List, [], length, OnOk, OnErr, IfOk};
+    ghost use Rattle.std.specs.List.{filter};
+    ghost use Rattle.event_model.specs.Events.{time_of};
     ghost use Rattle.event_model.specs.declared.inputs.Input.{Input};
     ghost use Rattle.event_model.specs.declared.inputs.Judgement.TheVariants.{Fine};
-    ghost use Rattle.event_model.specs.Presence.{History, added, no_history, settled, all_inputs, extended, in_batch, bound, present, judge, IsAccepted};
+    ghost use Rattle.event_model.specs.Presence.{History, added, no_history, settled, all_inputs, extended, in_batch};
+    ghost use Rattle.event_model.specs.Presence.{bound, present, judge, IsAccepted};
     ghost use Rattle.event_changes.specs.Events.{event_changes};
     ghost use Rattle.change_meaning.specs.Moved.{AreSpans};
     ghost use Rattle.etalis_core.specs.Kept.{number_of, HasRoom, IsLedgerOf};
@@ -50,12 +53,12 @@ impl Ledger {
         self.in_batch
     }
 
-    /// The events that were present at the last settlement, in order.
-    pub fn settled_events(&self, alloc: Global) -> Result<Vec<Event>, AllocError>
+    /// How many events it keeps: those that are present with a time of at least the bound.
+    pub fn held(&self) -> usize
         ensures { (late : Option ℕ) (told : List Input) (history : History) → IsLedgerOf self.now late told history
-            → IfOk result (λ v. v.items ≡ present told) }
+            → result ≡ length (filter (λ e. nat_le (bound late told) (time_of e)) (present (all_inputs history))) }
     {
-        self.present.settled_events(alloc)
+        self.present.held()
     }
 
     /// How the events that are present have changed since the last settlement, in order.
@@ -84,28 +87,29 @@ impl Ledger {
     }
 
     /// Follows an input that is fine. Where memory fails, all stays as it was.
-    pub fn follow(&mut self, late: Option<u64>, input: Input) -> Result<(), AllocError>
-        requires { HasRoom (number_of self.old.present) input }
-        ensures ok { (told : List Input) (history : History) → IsLedgerOf self.old late told history → IsAccepted late history
-            → judge late history input ≡ Fine → OnOk result (IsLedgerOf self.new late told (extended history input)) }
+    pub fn follow(&mut self, late: Option<u64>, input: &Input) -> Result<(), AllocError>
+        requires { HasRoom (number_of self.old.present) input.now }
+        ensures ok { (history : History) → IsLedgerOf self.old late (settled history) history → IsAccepted late history
+            → judge late history input.now ≡ Fine → OnOk result (IsLedgerOf self.new late (settled history) (extended history input.now)) }
         ensures err { (told : List Input) (history : History) → IsLedgerOf self.old late told history
             → OnErr result (IsLedgerOf self.new late told history) }
-        ensures spans { AreSpans (added input) }
+        ensures spans { AreSpans (added input.now) }
     {
-        let next_bound = self.next_bound.max(raised(late, &input));
-        let in_batch = is_in_batch_after(self.in_batch, &input);
+        let next_bound = self.next_bound.max(raised(late, input));
+        let in_batch = is_in_batch_after(self.in_batch, input);
         self.present.follow(input)?;
         self.next_bound = next_bound;
         self.in_batch = in_batch;
         Ok(())
     }
 
-    /// Takes all that was followed as settled: the bound is raised, and the changes of the events are forgotten.
+    /// Takes all that was followed as settled: the bound is raised, the changes of the events are forgotten, and the events below
+    /// the bound go.
     pub fn settle(&mut self)
         ensures { (late : Option ℕ) (told : List Input) (history : History) → IsLedgerOf self.old late told history
             → IsLedgerOf self.new late (all_inputs history) history }
     {
-        self.present.forget_changes();
         self.bound = self.next_bound;
+        self.present.settle(self.bound);
     }
 }

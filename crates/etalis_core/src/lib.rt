@@ -4,10 +4,14 @@
 
 mod engine;
 mod faults;
+mod held;
 mod judging;
 mod ledger;
 mod present;
+mod roll;
 
 pub use engine::Engine;
 pub use faults::{EngineFault, StartFault};
+pub use held::Held;
 pub use present::MOST_COPIES;
+pub use roll::Roll;

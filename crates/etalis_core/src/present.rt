@@ -1,7 +1,6 @@
 // The events that are present, with the numbers of their copies, and which of them have changed.
-ghost use Rattle.std.specs.Prelude.{◌≡◌, ◌<◌, ◌&&◌, ◌||◌, IfSome, OnOk, OnErr, if◌then◌else◌, not};
+ghost use Rattle.std.specs.Prelude.{◌≡◌, ◌<◌, OnOk, OnErr, if◌then◌else◌, not};
 ghost use Rattle.std.specs.Ordering.{is_eq};
-ghost use Rattle.std.specs.BTreeMap.{get};
 ghost use Rattle.std.specs.BTreeSet.{BTreeSet, IsOrdered};
 ghost use Rattle.std.proofs.Props.{props};
 ghost use Rattle.ordered_lists.specs.Canon.{has};
@@ -11,18 +10,18 @@ ghost use Rattle.event_model.specs.EventOrder.{event_cmp};
 use event_changes::EventChange;
 use event_model::{Event, Input};
 use std::alloc::{AllocError, Global};
-use std::collections::{BTreeMap, BTreeSet};
+use std::collections::BTreeSet;
+use support_table::Copies;
 
 /// The most copies of an event.
-pub const MOST_COPIES: u64 = 1 << 63;
+pub const MOST_COPIES: u64 = support_table::MOST_COPIES;
 
 /// The number of copies of each event that is present, and the events that are present and weren't, or aren't and were, since the
-/// changes were last forgotten.
+/// changes were last forgotten. Events below a bound are dropped then.
 #[derive(Drop)]
 pub struct Present {
-    numbers: BTreeMap<Event, u64>,
+    numbers: Copies,
     changed: BTreeSet<Event>,
-    ghost some_copies: { (e : Event) → IfSome (get event_cmp numbers e) (λ n. 0 < n) } by { Prim.hlevel props },
     ghost in_order: { IsOrdered event_cmp changed } by { Prim.hlevel props },
 }
 
@@ -39,22 +38,13 @@ fn flip(events: &mut BTreeSet<Event>, event: &Event) -> Result<(), AllocError>
     Ok(())
 }
 
-// Puts an event into a set, if it is wanted there.
-fn put_if(events: &mut BTreeSet<Event>, event: &Event, wanted: bool) -> Result<(), AllocError>
-    ensures { (e : Event) → OnOk result (has event_cmp e events.new.keys
-        ≡ (has event_cmp e events.old.keys || (wanted && is_eq (event_cmp event.now e)))) }
-{
-    if wanted {
-        events.insert(event.share()?)?;
-    }
-    Ok(())
-}
-
 impl Present {
-    ghost use Rattle.std.specs.Prelude.{◌+◌, ◌-◌, List, [], ◌∷◌, IfOk};
-    ghost use Rattle.event_model.specs.Presence.{added, taken, occurrences, present, is_absent};
+    ghost use Rattle.std.specs.Prelude.{◌+◌, ◌-◌, ℕ, List, [], ◌∷◌, IfOk, false, length, nat_le, nat_lt};
+    ghost use Rattle.std.specs.List.{filter};
+    ghost use Rattle.event_model.specs.Events.{time_of};
+    ghost use Rattle.event_model.specs.Presence.{added, taken, occurrences, present, is_absent, is_below};
     ghost use Rattle.event_model.specs.declared.inputs.Input.{Input};
-    ghost use Rattle.etalis_core.specs.Kept.{number_of, was_kept, net_change, net_changes, HasCopies, HasRoom};
+    ghost use Rattle.etalis_core.specs.Kept.{number_of, copies_from, was_kept, net_change, net_changes, HasCopies, HasRoom};
 
     /// No events, and no changes.
     pub fn new(alloc: Global) -> Present
@@ -62,7 +52,7 @@ impl Present {
         ensures changed { result.changed.keys ≡ [] }
     {
         Present {
-            numbers: BTreeMap::new(alloc),
+            numbers: Copies::new(alloc),
             changed: BTreeSet::new(alloc),
         }
     }
@@ -71,12 +61,13 @@ impl Present {
     pub fn number_of(&self, event: &Event) -> u64
         ensures { result ≡ number_of self.now event.now }
     {
-        self.numbers.get(event).copied().unwrap_or(0)
+        self.numbers.number(event)
     }
 
     /// Whether an input takes back an event of which there is no copy.
     pub fn is_absent(&self, input: &Input) -> bool
-        ensures { (inputs : List Input) → HasCopies self.now inputs → result ≡ is_absent inputs input.now }
+        ensures { (from : ℕ) (inputs : List Input) → HasCopies self.now from inputs → is_below from input.now ≡ false
+            → result ≡ is_absent inputs input.now }
     {
         match input {
             Input::Take(event) => self.number_of(event) == 0,
@@ -84,31 +75,12 @@ impl Present {
         }
     }
 
-    /// The events that were present when the changes were last forgotten, in order.
-    pub fn settled_events(&self, alloc: Global) -> Result<Vec<Event>, AllocError>
-        ensures { (told : List Input) → ((e : Event) → was_kept self.now e ≡ has event_cmp e (present told))
-            → IfOk result (λ v. v.items ≡ present told) }
+    /// The number of events that have a copy.
+    pub fn held(&self) -> usize
+        ensures { (from : ℕ) (inputs : List Input) → HasCopies self.now from inputs
+            → result ≡ length (filter (λ e. nat_le from (time_of e)) (present inputs)) }
     {
-        let events = self.settled_set(alloc)?;
-        let mut list = Vec::new(alloc);
-        for event in &events {
-            list.push(event.share()?)?;
-        }
-        Ok(list)
-    }
-
-    // The same as a set.
-    fn settled_set(&self, alloc: Global) -> Result<BTreeSet<Event>, AllocError>
-        ensures { (e : Event) → IfOk result (λ set. has event_cmp e set.keys ≡ was_kept self.now e) }
-    {
-        let mut events = BTreeSet::new(alloc);
-        for event in self.numbers.keys() {
-            put_if(&mut events, event, !self.changed.contains(event))?;
-        }
-        for event in &self.changed {
-            put_if(&mut events, event, self.number_of(event) == 0)?;
-        }
-        Ok(events)
+        self.numbers.held()
     }
 
     // How an event that has changed did.
@@ -134,70 +106,79 @@ impl Present {
         Ok(changes)
     }
 
-    /// Forgets the changes.
-    pub fn forget_changes(&mut self)
-        ensures numbers { (e : Event) → number_of self.new e ≡ number_of self.old e }
+    /// Forgets the changes, and drops the copies of events with a time below the bound.
+    pub fn settle(&mut self, bound: u64)
+        ensures numbers { (e : Event) → number_of self.new e ≡ copies_from bound (number_of self.old) e }
         ensures changed { self.new.changed.keys ≡ [] }
     {
         self.changed.clear();
+        self.numbers.drop_below(bound);
     }
 
     // Adds the first copy of an event.
-    fn add_first(&mut self, event: Event) -> Result<(), AllocError>
-        requires { number_of self.old event ≡ 0 }
-        ensures numbers { (e : Event) → OnOk result (number_of self.new e ≡ number_of self.old e + occurrences e (event ∷ [])) }
+    fn add_first(&mut self, event: &Event) -> Result<(), AllocError>
+        requires { number_of self.old event.now ≡ 0 }
+        ensures numbers { (e : Event) → OnOk result (number_of self.new e ≡ number_of self.old e + occurrences e (event.now ∷ [])) }
         ensures was { (e : Event) → OnOk result (was_kept self.new e ≡ was_kept self.old e) }
         ensures err_numbers { (e : Event) → OnErr result (number_of self.new e ≡ number_of self.old e) }
         ensures err_changed { OnErr result (self.new.changed.keys ≡ self.old.changed.keys) }
     {
-        let shared = event.share()?;
-        self.numbers.insert(event, 1)?;
-        if let Err(fault) = flip(&mut self.changed, &shared) {
-            self.numbers.remove(&shared);
+        self.numbers.add(event)?;
+        if let Err(fault) = flip(&mut self.changed, event) {
+            self.numbers.take(event);
             return Err(fault);
         }
         Ok(())
     }
 
     // Adds a copy of an event.
-    fn add(&mut self, event: Event) -> Result<(), AllocError>
-        requires { number_of self.old event < MOST_COPIES }
-        ensures numbers { (e : Event) → OnOk result (number_of self.new e ≡ number_of self.old e + occurrences e (event ∷ [])) }
+    fn add(&mut self, event: &Event) -> Result<(), AllocError>
+        requires { number_of self.old event.now < MOST_COPIES }
+        ensures numbers { (e : Event) → OnOk result (number_of self.new e ≡ number_of self.old e + occurrences e (event.now ∷ [])) }
         ensures was { (e : Event) → OnOk result (was_kept self.new e ≡ was_kept self.old e) }
         ensures err_numbers { (e : Event) → OnErr result (number_of self.new e ≡ number_of self.old e) }
         ensures err_changed { OnErr result (self.new.changed.keys ≡ self.old.changed.keys) }
     {
-        let number = self.number_of(&event);
-        if number == 0 {
+        if self.number_of(event) == 0 {
             return self.add_first(event);
         }
-        self.numbers.insert(event, number + 1)?;
+        self.numbers.add(event)?;
+        Ok(())
+    }
+
+    // Takes the last copy of an event away.
+    fn remove_last(&mut self, event: &Event) -> Result<(), AllocError>
+        requires { number_of self.old event.now ≡ 1 }
+        ensures numbers { (e : Event) → OnOk result (number_of self.new e ≡ number_of self.old e - occurrences e (event.now ∷ [])) }
+        ensures was { (e : Event) → OnOk result (was_kept self.new e ≡ was_kept self.old e) }
+        ensures err_numbers { (e : Event) → OnErr result (number_of self.new e ≡ number_of self.old e) }
+        ensures err_changed { OnErr result (self.new.changed.keys ≡ self.old.changed.keys) }
+    {
+        flip(&mut self.changed, event)?;
+        self.numbers.take(event);
         Ok(())
     }
 
     // Takes a copy of an event away, where there is one.
-    fn remove(&mut self, event: Event) -> Result<(), AllocError>
-        ensures numbers { (e : Event) → OnOk result (number_of self.new e ≡ number_of self.old e - occurrences e (event ∷ [])) }
+    fn remove(&mut self, event: &Event) -> Result<(), AllocError>
+        ensures numbers { (e : Event) → OnOk result (number_of self.new e ≡ number_of self.old e - occurrences e (event.now ∷ [])) }
         ensures was { (e : Event) → OnOk result (was_kept self.new e ≡ was_kept self.old e) }
         ensures err_numbers { (e : Event) → OnErr result (number_of self.new e ≡ number_of self.old e) }
         ensures err_changed { OnErr result (self.new.changed.keys ≡ self.old.changed.keys) }
     {
-        let number = self.number_of(&event);
-        if number == 1 {
-            flip(&mut self.changed, &event)?;
-            self.numbers.remove(&event);
-        } else if number > 1 {
-            self.numbers.insert(event, number - 1)?;
+        if self.number_of(event) == 1 {
+            return self.remove_last(event);
         }
+        self.numbers.take(event);
         Ok(())
     }
 
     /// Follows an input: adds a copy of the event that it adds, or takes one away of the event that it takes back. Where memory
     /// fails, all stays as it was.
-    pub fn follow(&mut self, input: Input) -> Result<(), AllocError>
-        requires { HasRoom (number_of self.old) input }
-        ensures numbers { (e : Event)
-            → OnOk result (number_of self.new e ≡ number_of self.old e + occurrences e (added input) - occurrences e (taken input)) }
+    pub fn follow(&mut self, input: &Input) -> Result<(), AllocError>
+        requires { HasRoom (number_of self.old) input.now }
+        ensures numbers { (e : Event) → OnOk result (number_of self.new e
+            ≡ number_of self.old e + occurrences e (added input.now) - occurrences e (taken input.now)) }
         ensures was { (e : Event) → OnOk result (was_kept self.new e ≡ was_kept self.old e) }
         ensures err_numbers { (e : Event) → OnErr result (number_of self.new e ≡ number_of self.old e) }
         ensures err_changed { OnErr result (self.new.changed.keys ≡ self.old.changed.keys) }

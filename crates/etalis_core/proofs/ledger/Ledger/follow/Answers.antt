@@ -5,8 +5,8 @@ use Rattle.etalis_core.proofs.LedgerLaws.{ledger_next, ledger_same}
 use Rattle.etalis_core.proofs.ledger.Ledger.follow.Goals as goal
 
 pub returns-clause-ok : goal.returns-clause-ok
-returns-clause-ok c = λ told history l a fine.
-    ledger_next c.args.self.now _ c.args.late told history c.args.input l a fine c.in_ok-follow.ensures.numbers c.in_ok-follow.ensures.was refl
+returns-clause-ok c = λ history l a fine.
+    ledger_next c.args.self.now _ c.args.late history c.args.input.now l a fine c.in_ok-follow.ensures.numbers c.in_ok-follow.ensures.was refl
     (c.max-next_bound.ensures ∙ ap (max c.args.self.now.next_bound) c.raised.ensures.raised) (c.is_in_batch_after-in_batch.ensures history l.batch)
 
 pub returns-in_err-follow-clause-err : goal.returns-in_err-follow-clause-err
