@@ -1,5 +1,5 @@
 -- Pieces one after another.
-use Rattle.std.proofs.Common.{◌≡◌, ℕ, ◌+◌, ◌≤◌, true, false, cond, eqb, List, [], ◌∷◌, ◌++◌, Option, Some, length, take, refl, sym, ap, ◌∙◌, arith, append-nil, append_assoc, length-append}
+use Rattle.std.proofs.Common.{◌≡◌, ℕ, ◌+◌, ◌≤◌, true, false, cond, eqb, List, [], ◌∷◌, ◌++◌, Option, Some, length, refl, sym, ap, ◌∙◌, subst, arith, append-nil, append_assoc, length-append}
 use Rattle.std.specs.Io.KnownBytes.{append_known}
 use Rattle.flow_ports.specs.Flow.{Gives, GivesPart}
 use Rattle.flow_ports.proofs.FlowLemmas.{append_known-nil, gives_more}
@@ -10,8 +10,9 @@ use Rattle.line_reader.specs.declared.reading.LineReader.{LineReader}
 use Rattle.line_reader.proofs.CutLaws.{ended-line, rest-line, ended-open, rest-open, ended-front, rest-front}
 use Rattle.etalis_cli.specs.Output.{Talk, after, after_line, reply_to, replies}
 use Rattle.etalis_cli.specs.StandsFor.{StandsFor}
-use Rattle.etalis_cli.specs.Feeds.{Kept, Feeds, FedTo, FeedsPart}
+use Rattle.etalis_cli.specs.Feeds.{Kept, Feeds, Between, FedTo, FeedsPart}
 use Rattle.etalis_cli.specs.declared.session.Session.{Session}
+use Rattle.etalis_cli.proofs.NoteLaws.{part_longer, part_behind}
 
 -- ---- states and replies, one list of lines after another
 
@@ -65,23 +66,37 @@ length-ended_from p (x ∷ xs) =
 
 -- ---- pieces with the session and the reader
 
--- Of a part of a line and a piece, all lines were taken whose line feeds are among the bytes done; the reader holds the rest.
-pub record Drained (start : Talk) (part piece : List ℕ) (got sent : Option (List ℕ)) (session : Session) (reader : LineReader) : Type 0 where
+-- Of a part of a line and a piece, all lines were taken whose line feeds are among the bytes done. These are their replies.
+pub record Taken (start : Talk) (part piece text : List ℕ) : Type 0 where
   pub reached : Talk
   pub done : List ℕ
   pub left : List ℕ
   pub whole : part ++ piece ≡ done ++ left
-  pub stands : StandsFor session reached
-  pub holds : Holds reader left
-  pub feeds : Feeds (record { talk = start; part = []; got = got }) (record { talk = reached; part = []; got = sent }) done
+  pub feeds : Feeds (record { talk = start; part = []; got = Some [] }) (record { talk = reached; part = []; got = Some text }) done
 
-pub drained_none : (s : Talk) (part piece : List ℕ) (got : Option (List ℕ)) (session : Session) (reader : LineReader) → StandsFor session s → Holds reader (part ++ piece) → Drained s part piece got got session reader
-drained_none s part piece got session reader p h = record { reached = s; done = []; left = part ++ piece; whole = refl; stands = p; holds = h; feeds = feeds_none _ }
+-- The session stands for what they come to, and the reader holds the rest.
+pub record Drained (start : Talk) (part piece text : List ℕ) (session : Session) (reader : LineReader) : Type 0 where
+  pub taken : Taken start part piece text
+  pub stands : StandsFor session taken.reached
+  pub holds : Holds reader taken.left
+
+-- Of these replies the first ones went out, and the others are gathered.
+pub record Sending (before : Session) (first : LineReader) (piece : List ℕ) (got got' : Option (List ℕ)) (text : List ℕ) (session : Session) (reader : LineReader) : Type 0 where
+  pub sent : List ℕ
+  pub gives : Gives got got' sent
+  pub drained : (t : Talk) (part : List ℕ) → Between before first t part → Drained t part piece (sent ++ text) session reader
+
+pub drained_none : (s : Talk) (part piece text : List ℕ) (session : Session) (reader : LineReader) → text ≡ [] → StandsFor session s → Holds reader (part ++ piece) → Drained s part piece text session reader
+drained_none s part piece text session reader e p h = record {
+  taken = record { reached = s; done = []; left = part ++ piece; whole = refl; feeds = record { talk = refl; part = refl; got = ap Some e } };
+  stands = p;
+  holds = h;
+}
 
 -- one line more
-pub drained_line : (s : Talk) (part piece : List ℕ) (got : Option (List ℕ)) (t u : List ℕ) (a b : Session) (p q : LineReader) (d : Drained s part piece got (Some t) a p) (raw more : List ℕ)
-    → d.left ≡ raw ++ 10 ∷ more → NoFeed raw → Holds q more → u ≡ t ++ reply_to d.reached (without_cr raw) → StandsFor b (after_line d.reached (without_cr raw)) → Drained s part piece got (Some u) b q
-drained_line s part piece got t u a b p q d raw more e plain h text next =
+pub taken_line : (s : Talk) (part piece t u : List ℕ) (d : Taken s part piece t) (raw more : List ℕ)
+    → d.left ≡ raw ++ 10 ∷ more → NoFeed raw → u ≡ t ++ reply_to d.reached (without_cr raw) → Taken s part piece u
+taken_line s part piece t u d raw more e plain text =
     let line : List ℕ = raw ++ 10 ∷ [] in
     let lines : ended line ≡ without_cr raw ∷ [] = ended-line raw [] plain in
     record {
@@ -89,8 +104,6 @@ drained_line s part piece got t u a b p q d raw more e plain h text next =
       done = d.done ++ line;
       left = more;
       whole = d.whole ∙ ap (λ l. d.done ++ l) (e ∙ sym (append_assoc raw (10 ∷ []) more)) ∙ sym (append_assoc d.done line more);
-      stands = next;
-      holds = h;
       feeds = feeds_more _ _ _ d.done line d.feeds (record {
         talk = ap (after d.reached) (sym lines);
         part = sym (rest-line raw [] plain);
@@ -98,57 +111,66 @@ drained_line s part piece got t u a b p q d raw more e plain h text next =
       });
     }
 
+pub drained_line : (s : Talk) (part piece t u : List ℕ) (a b : Session) (p q : LineReader) (d : Drained s part piece t a p) (raw more : List ℕ)
+    → d.taken.left ≡ raw ++ 10 ∷ more → NoFeed raw → Holds q more → u ≡ t ++ reply_to d.taken.reached (without_cr raw) → StandsFor b (after_line d.taken.reached (without_cr raw)) → Drained s part piece u b q
+unfolding taken_line
+drained_line s part piece t u a b p q d raw more e plain holds text next = record { taken = taken_line s part piece t u d.taken raw more e plain text; stands = next; holds = holds }
+
+-- a reply more is gathered
+pub reply_more : (sent text more reply : List ℕ) → more ≡ text ++ reply → sent ++ more ≡ (sent ++ text) ++ reply
+reply_more sent text more reply e = ap (λ l. sent ++ l) e ∙ sym (append_assoc sent text reply)
+
+-- more of what is gathered goes out
+pub sent_more : (sent text first rest : List ℕ) → text ≡ first ++ rest → (sent ++ first) ++ rest ≡ sent ++ text
+sent_more sent text first rest e = append_assoc sent first rest ∙ ap (λ l. sent ++ l) (sym e)
+
+-- the lines of the part and the piece are those that were taken, and those of the rest
+lines_taken : (s : Talk) (part piece text : List ℕ) (d : Taken s part piece text) → NoFeed part → ended_from part piece ≡ ended d.done ++ ended_from (rest d.done) d.left
+lines_taken s part piece text d plain = ended-front part piece plain ∙ ap ended d.whole ∙ ended_from-append [] d.done d.left
+
 -- the lines so far are no more than the bytes of the piece
-pub drained_count : (s : Talk) (part piece : List ℕ) (got sent : Option (List ℕ)) (session : Session) (reader : LineReader) (d : Drained s part piece got sent session reader) → NoFeed part → d.reached.state.count ≤ s.state.count + length piece
-drained_count s part piece got sent session reader d plain =
+pub taken_count : (s : Talk) (part piece text : List ℕ) (d : Taken s part piece text) → NoFeed part → d.reached.state.count ≤ s.state.count + length piece
+taken_count s part piece text d plain =
     let e : d.reached.state.count ≡ s.state.count + length (ended d.done) = ap (λ (x : Talk). x.state.count) d.feeds.talk ∙ count-after s (ended d.done) in
     let f : length (ended_from part piece) ≡ length (ended d.done) + length (ended_from (rest d.done) d.left) =
-    ap length (ended-front part piece plain ∙ ap ended d.whole ∙ ended_from-append [] d.done d.left) ∙ length-append (ended d.done) (ended_from (rest d.done) d.left) in
+    ap length (lines_taken s part piece text d plain) ∙ length-append (ended d.done) (ended_from (rest d.done) d.left) in
     omega (arith, e, f, length-ended_from part piece)
 
--- no line is left
-pub drained_all : (s : Talk) (part piece : List ℕ) (got sent : Option (List ℕ)) (session : Session) (reader last : LineReader) (d : Drained s part piece got sent session reader) → NoFeed part → NoFeed d.left → Holds last d.left
-    → FedTo (record { talk = s; part = part; got = got }) session last sent piece
-drained_all s part piece got sent session reader last d whole plain holds =
+same_some : (xs ys : List ℕ) → Some xs ≡ Some ys → xs ≡ ys
+same_some xs ys e = cc
+
+-- the replies to the piece begin with those to the lines that were taken
+pub part_taken : (s : Talk) (part piece sent text : List ℕ) (got got' got'' : Option (List ℕ)) → Taken s part piece (sent ++ text) → NoFeed part → Gives got got' sent → GivesPart got' got'' text
+    → FeedsPart (record { talk = s; part = part; got = got }) got'' piece
+part_taken s part piece sent text got got' got'' d plain gives part_of =
+    let more : List ℕ = replies (after s (ended d.done)) (ended_from (rest d.done) d.left) in
+    let all : (sent ++ text) ++ more ≡ replies s (ended_from part piece) =
+    ap (λ l. l ++ more) (same_some _ _ d.feeds.got) ∙ sym (replies-append s (ended d.done) (ended_from (rest d.done) d.left)) ∙ ap (replies s) (sym (lines_taken s part piece _ d plain)) in
+    record { sent = subst (GivesPart got got'') all (part_longer got got'' (sent ++ text) more (part_behind got got' got'' sent text gives part_of)) }
+
+-- no line is left, and all replies went out
+pub drained_all : (s : Talk) (part piece text : List ℕ) (got got' : Option (List ℕ)) (session : Session) (reader last : LineReader) (d : Drained s part piece text session reader) → NoFeed part → NoFeed d.taken.left → Holds last d.taken.left
+    → Gives got got' text → FedTo (record { talk = s; part = part; got = got }) session last got' piece
+drained_all s part piece text got got' session reader last drained whole plain holds gives =
+    let d = drained.taken in
     let lines : ended d.left ≡ [] = ended-open d.left plain in
-    let f : Feeds (record { talk = s; part = []; got = got }) (record { talk = d.reached; part = d.left; got = sent }) (d.done ++ d.left) = feeds_more _ (record { talk = d.reached; part = []; got = sent }) _ d.done d.left d.feeds (record {
+    let f : Feeds (record { talk = s; part = []; got = Some [] }) (record { talk = d.reached; part = d.left; got = Some text }) (d.done ++ d.left) = feeds_more _ (record { talk = d.reached; part = []; got = Some text }) _ d.done d.left d.feeds (record {
       talk = ap (after d.reached) (sym lines);
       part = sym (rest-open d.left plain);
-      got = sym (append_known-nil sent) ∙ ap (λ l. append_known sent (replies d.reached l)) (sym lines);
+      got = sym (append_known-nil (Some text)) ∙ ap (λ l. append_known (Some text) (replies d.reached l)) (sym lines);
     }) in
     let same_ended : ended (d.done ++ d.left) ≡ ended_from part piece = ap ended (sym d.whole) ∙ sym (ended-front part piece whole) in
     let same_rest : rest (d.done ++ d.left) ≡ rest_from part piece = ap rest (sym d.whole) ∙ sym (rest-front part piece whole) in
     record {
       reached = d.reached;
       rest = d.left;
-      between = record { stands = d.stands; holds = holds; plain = plain };
+      between = record { stands = drained.stands; holds = holds; plain = plain };
       feeds = record {
         talk = f.talk ∙ ap (after s) same_ended;
         part = f.part ∙ same_rest;
-        got = f.got ∙ ap (λ l. append_known got (replies s l)) same_ended;
+        got = gives ∙ ap (append_known got) (same_some _ _ f.got ∙ ap (replies s) same_ended);
       };
     }
-
-same_some : (xs ys : List ℕ) → Some xs ≡ Some ys → xs ≡ ys
-same_some xs ys e = cc
-
--- ---- the replies to a piece, gathered and then sent
-
-gathered : (s : Talk) (p q t u piece : List ℕ) (b : Talk) → t ≡ [] → Feeds (record { talk = s; part = p; got = Some t }) (record { talk = b; part = q; got = Some u }) piece → u ≡ replies s (ended_from p piece)
-gathered s p q t u piece b e f = same_some _ _ f.got ∙ ap (λ l. l ++ replies s (ended_from p piece)) e
-
-pub fed_sent : (s : Talk) (session : Session) (reader : LineReader) (p t u piece : List ℕ) (got got' : Option (List ℕ)) → t ≡ [] → FedTo (record { talk = s; part = p; got = Some t }) session reader (Some u) piece → Gives got got' u
-    → FedTo (record { talk = s; part = p; got = got }) session reader got' piece
-fed_sent s session reader p t u piece got got' e f sent = record {
-  reached = f.reached;
-  rest = f.rest;
-  between = f.between;
-  feeds = record { talk = f.feeds.talk; part = f.feeds.part; got = sent ∙ ap (append_known got) (gathered s p f.rest t u piece f.reached e f.feeds) };
-}
-
-pub part_sent : (s : Talk) (session : Session) (reader : LineReader) (p t u piece : List ℕ) (got got' : Option (List ℕ)) → t ≡ [] → FedTo (record { talk = s; part = p; got = Some t }) session reader (Some u) piece → GivesPart got got' u
-    → FeedsPart (record { talk = s; part = p; got = got }) got' piece
-part_sent s session reader p t u piece got got' e f sent = record { sent = (sent.0, sent.1 ∙ ap (λ r. append_known got (take sent.0 r)) (gathered s p f.rest t u piece f.reached e f.feeds)) }
 
 -- ---- how many lines were taken
 

@@ -5,7 +5,7 @@ use Rattle.std.proofs.Math.Seq.{drop-cons}
 use Rattle.std.proofs.lemmas.List.{drop_all}
 use Rattle.std.proofs.lemmas.List.Concat.{flat_map-append}
 use Rattle.event_model.specs.Bytes.{plus, minus}
-use Rattle.event_model.specs.Presence.{History, all_inputs, extended, copies, judge, settles, Says, Fails, Verdict, Accepted, Refused, verdict, verdict_of, after_verdict}
+use Rattle.event_model.specs.Presence.{History, all_inputs, extended, copies, judge, IsAccepted, settles, Says, Fails, Verdict, Accepted, Refused, verdict, verdict_of, after_verdict}
 use Rattle.event_model.specs.declared.inputs.Input.{Input}
 use Rattle.event_model.specs.declared.inputs.Input.TheVariants.{Add, Take, Advance, Nothing, Begin, Commit}
 use Rattle.event_model.specs.declared.inputs.Judgement.{Judgement}
@@ -23,10 +23,12 @@ use Rattle.etalis_core.specs.Kept.{HasRoom}
 use Rattle.etalis_core.specs.StandsFor.{StandsFor, WorksFrom, CanBegin, can_begin, late_of, is_working, visits_by}
 use Rattle.etalis_core.specs.declared.present.TheConstants.{MOST_COPIES}
 use Rattle.etalis_core.specs.declared.engine.Engine.{Engine}
+use Rattle.etalis_core.specs.declared.roll.Roll.{Roll}
 use Rattle.etalis_core.proofs.HistoryLaws.{copies_few}
 use Rattle.revision.specs.Holding.{counted as capped}
 use Rattle.etalis_cli.specs.Output.{visits_told, visits_in}
 use Rattle.etalis_cli.specs.Replying.{refusal_of, reply_by, HasVisits}
+use Rattle.etalis_cli.specs.StandsFor.{KeepsAll}
 use Rattle.etalis_cli.specs.declared.replying.Answer.{Answer}
 
 -- ---- how a judgement refuses
@@ -89,6 +91,13 @@ settles_where engine h input b works stands is = at (settles h input) refl
     at : (t : Bool) → settles h input ≡ t → settles h input ≡ b
     at true e = e ∙ sym (works e).1.is_begun ∙ is
     at false e = e ∙ sym (stands e).not_working ∙ is
+
+-- a roll that follows with a lateness follows with an equal one
+pub keeps_on : (old new : Option Roll) (late other : Option ℕ) (h : History) (input : Input) → late ≡ other
+    → (KeepsAll old late h → IsAccepted late h → judge late h input ≡ judgement.Fine → KeepsAll new late (extended h input))
+    → KeepsAll old other h → IsAccepted other h → judge other h input ≡ judgement.Fine → KeepsAll new other (extended h input)
+keeps_on old new late other h input e follows =
+    subst (λ l. KeepsAll old l h → IsAccepted l h → judge l h input ≡ judgement.Fine → KeepsAll new l (extended h input)) e follows
 
 -- its reply and its visits, by whether it settled something and whether it says nothing
 module _ (rules : List PlainStatement) (late : Option ℕ) (h : History) (input : Input) where

@@ -1,5 +1,6 @@
 -- A session from line to line.
 use Rattle.std.proofs.Common.{◌≡◌, ℕ, ◌+◌, ◌^◌, ◌<◌, ◌≤◌, Option, Some, None, List, [], ◌∷◌, ◌++◌, length, refl, sym, ap, ◌∙◌, subst, inl, arith, length-append, append-nil}
+use Rattle.std.specs.Prelude.{is_some}
 use Rattle.std.proofs.lemmas.List.Concat.{flat_map-append}
 use Rattle.std.specs.List.{flat_map}
 use Rattle.event_model.specs.Presence.{History, Verdict, Accepted, Refused, verdict, after_verdict, extended, with_input, all_inputs, batch_inputs, Fails}
@@ -10,32 +11,47 @@ use Rattle.pattern_meaning.specs.Replies.{Reply, reply}
 use Rattle.event_reader.specs.Machine.{heard}
 use Rattle.event_reader.proofs.LineLaws.{heard_short}
 use Rattle.etalis_core.specs.StandsFor as core
-use Rattle.etalis_core.specs.StandsFor.{rules_of, late_of}
+use Rattle.etalis_core.specs.StandsFor.{rules_of, late_of, rows_kept, events_kept}
+use Rattle.etalis_core.specs.declared.engine.Engine.{Engine}
 use Rattle.etalis_cli.specs.Output.{Talk, voiced, counted, visits_in, after_line, reply_to, tally_after}
-use Rattle.etalis_cli.specs.StandsFor.{IsWithin, StandsFor}
+use Rattle.etalis_cli.specs.StandsFor.{IsWithin, KeepsAll, StandsFor, keeps_all}
 use Rattle.etalis_cli.specs.declared.voices.Tally.{Tally}
 use Rattle.etalis_cli.specs.declared.session.Session.{Session}
 
 -- ---- a reply in the session's words
 
-abbrev reply_in : Session → Talk → List ℕ → Reply
-reply_in a t line = reply (rules_of a.engine) t.state.history (a.count + 1) (verdict (late_of a.engine) t.state.history (heard line))
+abbrev pub judged_in : Session → Talk → List ℕ → Verdict
+judged_in a t line = verdict (late_of a.engine) t.state.history (heard line)
 
--- what is written of it
-pub told : (a : Session) (t : Talk) (line : List ℕ) → StandsFor a t → voiced a.voice (reply_in a t line) ≡ reply_to t line
+abbrev reply_in : Session → Talk → List ℕ → Reply
+reply_in a t line = reply (rules_of a.engine) t.state.history (a.count + 1) (judged_in a t line)
+
+-- what is written of it, by what an engine with the same rules holds after it
+pub told : (a : Session) (engine : Engine) (t : Talk) (line : List ℕ) (r : Reply) → StandsFor a t → r ≡ reply_in a t line
+    → rules_of engine ≡ rules_of a.engine → late_of engine ≡ late_of a.engine → let h = after_verdict t.state.history (judged_in a t line) in
+    voiced a.voice r (rows_kept (rules_of engine) (late_of engine) h) (events_kept (late_of engine) h) ≡ reply_to t line
 unfolding reply_to
-told a t line p =
-    λ i. voiced (sym p.same_voice i) (reply (sym p.same_rules i) t.state.history (sym p.same_count i + 1) (verdict (sym p.same_late i) t.state.history (heard line)))
+told a engine t line r p is rules late =
+    let h : History = after_verdict t.state.history (judged_in a t line) in
+    (λ i. voiced a.voice (is i) (rows_kept (rules i) (late i) h) (events_kept (late i) h))
+    ∙ (λ i. voiced (sym p.same_voice i) (reply (sym p.same_rules i) t.state.history (sym p.same_count i + 1) (verdict (sym p.same_late i) t.state.history (heard line)))
+    (rows_kept (sym p.same_rules i) (sym p.same_late i) (after_verdict t.state.history (verdict (sym p.same_late i) t.state.history (heard line))))
+    (events_kept (sym p.same_late i) (after_verdict t.state.history (verdict (sym p.same_late i) t.state.history (heard line)))))
 
 abbrev pub visits_of : Session → Talk → List ℕ → ℕ
-visits_of a t line = visits_in (rules_of a.engine) (late_of a.engine) t.state.history (verdict (late_of a.engine) t.state.history (heard line))
+visits_of a t line = visits_in (rules_of a.engine) (late_of a.engine) t.state.history (judged_in a t line)
 
 -- what is counted of it
-pub tallied : (a : Session) (t : Talk) (line : List ℕ) → StandsFor a t → counted a.voice a.tally (reply_in a t line) (visits_of a t line) ≡ tally_after t line
+pub tallied : (a : Session) (engine : Engine) (t : Talk) (line : List ℕ) (r : Reply) → StandsFor a t → r ≡ reply_in a t line
+    → rules_of engine ≡ rules_of a.engine → late_of engine ≡ late_of a.engine → let h = after_verdict t.state.history (judged_in a t line) in
+    counted a.voice a.tally r (visits_of a t line) (rows_kept (rules_of engine) (late_of engine) h) ≡ tally_after t line
 unfolding tally_after
-tallied a t line p =
-    λ i. counted (sym p.same_voice i) (sym p.same_tally i) (reply (sym p.same_rules i) t.state.history (sym p.same_count i + 1) (verdict (sym p.same_late i) t.state.history (heard line)))
+tallied a engine t line r p is rules late =
+    let h : History = after_verdict t.state.history (judged_in a t line) in
+    (λ i. counted a.voice a.tally (is i) (visits_of a t line) (rows_kept (rules i) (late i) h))
+    ∙ (λ i. counted (sym p.same_voice i) (sym p.same_tally i) (reply (sym p.same_rules i) t.state.history (sym p.same_count i + 1) (verdict (sym p.same_late i) t.state.history (heard line)))
     (visits_in (sym p.same_rules i) (sym p.same_late i) t.state.history (verdict (sym p.same_late i) t.state.history (heard line)))
+    (rows_kept (sym p.same_rules i) (sym p.same_late i) (after_verdict t.state.history (verdict (sym p.same_late i) t.state.history (heard line)))))
 
 -- one line more
 within_after : (old new : Tally) (n : ℕ) → IsWithin old n → new.told ≤ old.told + 2 ^ 64 → new.withdrawn ≤ old.withdrawn + 2 ^ 64 → IsWithin new (n + 1)
@@ -75,14 +91,18 @@ few_after h (Refused why) n few = omega (arith, few)
 
 pub stands_after : (a b : Session) (t : Talk) (line : List ℕ) → StandsFor a t → rules_of b.engine ≡ rules_of a.engine → late_of b.engine ≡ late_of a.engine
     → b.voice ≡ a.voice → b.count ≡ a.count + 1 → b.tally ≡ tally_after t line → b.tally.told ≤ a.tally.told + 2 ^ 64 → b.tally.withdrawn ≤ a.tally.withdrawn + 2 ^ 64
-    → core.StandsFor b.engine (after_verdict t.state.history (verdict (late_of a.engine) t.state.history (heard line))) → StandsFor b (after_line t line)
-stands_after a b t line p rules late voice count tally more_told more_withdrawn h = record {
+    → core.StandsFor b.engine (after_verdict t.state.history (judged_in a t line)) → is_some b.roll ≡ is_some a.roll
+    → KeepsAll b.roll (late_of a.engine) (after_verdict t.state.history (judged_in a t line)) → StandsFor b (after_line t line)
+stands_after a b t line p rules late voice count tally more_told more_withdrawn h there all = record {
   same_rules = p.same_rules ∙ sym rules;
   same_late = p.same_late ∙ sym late;
   same_voice = p.same_voice ∙ sym voice;
   same_count = ap (λ n. n + 1) p.same_count ∙ sym count;
   same_tally = sym tally;
   inputs = subst (λ l. core.StandsFor b.engine (after_verdict t.state.history (verdict l t.state.history (heard line)))) (sym p.same_late) h;
+  there = there ∙ p.there ∙ ap keeps_all (sym voice);
+  all = subst (λ l. KeepsAll b.roll (late_of b.engine) (after_verdict t.state.history (verdict l t.state.history (heard line)))) (sym p.same_late)
+      (subst (λ l. KeepsAll b.roll l (after_verdict t.state.history (judged_in a t line))) (sym late) all);
   few = few_after t.state.history (verdict t.state.late t.state.history (heard line)) t.state.count p.few;
   within = subst (λ x. IsWithin x (t.state.count + 1)) tally
       (within_after a.tally b.tally t.state.count (subst (λ x. IsWithin x t.state.count) p.same_tally p.within) more_told more_withdrawn);

@@ -1,5 +1,5 @@
 -- What a piece of the input does to what lines have come to, to the part of a line that is kept, and to the output.
-use Rattle.std.specs.Prelude.{◌≡◌, ℕ, List, Option}
+use Rattle.std.specs.Prelude.{◌≡◌, ℕ, List, ◌++◌, Option}
 use Rattle.flow_ports.specs.Flow.{Gives, GivesPart}
 use Rattle.event_model.specs.Lines.{ended_from, rest_from}
 use Rattle.line_reader.specs.Cutting.{NoFeed}
@@ -37,3 +37,9 @@ pub record FedTo (old : Kept) (session : Session) (reader : LineReader) (sent : 
 -- some first part of these replies went out
 pub record FeedsPart (old : Kept) (got : Option (List ℕ)) (piece : List ℕ) : Type 0 where
   pub sent : GivesPart old.got got (replies old.talk (ended_from old.part piece))
+
+-- the first bytes of what was gathered went out, and the others are what is gathered now
+pub record Sends (got got' : Option (List ℕ)) (text text' : List ℕ) : Type 0 where
+  pub sent : List ℕ
+  pub gives : Gives got got' sent
+  pub whole : text ≡ sent ++ text'

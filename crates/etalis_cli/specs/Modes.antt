@@ -9,7 +9,7 @@ use Rattle.job_words.specs.declared.jobs.Mode.{Mode}
 use Rattle.job_words.specs.declared.jobs.Mode.TheVariants.{Run, Check, Scratch, Held, Drill}
 use Rattle.etalis_cli.specs.Output.{Setting, out_text}
 use Rattle.etalis_cli.specs.declared.voices.Voice.{Voice}
-use Rattle.etalis_cli.specs.declared.voices.Voice.TheVariants.{Replies, Refusals, Counts}
+use Rattle.etalis_cli.specs.declared.voices.Voice.TheVariants as voice
 
 -- whether the mode reads the source
 abbrev pub reads : Mode → Bool
@@ -26,11 +26,11 @@ job_reads (Some job) = reads job.mode
 
 -- how a mode answers lines; a check answers none
 abbrev pub voice_of : Mode → Voice
-voice_of Run = Replies
-voice_of Check = Replies
-voice_of Scratch = Refusals
-voice_of Held = Replies
-voice_of Drill = Counts
+voice_of Run = voice.Replies
+voice_of Check = voice.Replies
+voice_of Scratch = voice.Refusals
+voice_of Held = voice.Held
+voice_of Drill = voice.Counts
 
 -- what a job runs with, by the rules of its file
 abbrev pub setting_for : PlainJob → List PlainStatement → Setting

@@ -1,9 +1,9 @@
 // Pieces of the input to lines, and lines to replies.
-ghost use Rattle.std.specs.Prelude.{◌≡◌, ◌+◌, ◌<◌, ◌≤◌, ℕ, List, Some, length, OnOk, OnErr, IsErrOf};
-ghost use Rattle.flow_ports.specs.Flow.{Rose};
+ghost use Rattle.std.specs.Prelude.{◌≡◌, ◌+◌, ◌<◌, ◌≤◌, ℕ, List, length, vec_len, OnOk, OnErr, IsErrOf};
+ghost use Rattle.flow_ports.specs.Flow.{Rose, CountsFaults, GivesPart};
 ghost use Rattle.etalis_core.specs.declared.present.TheConstants.{MOST_COPIES};
 ghost use Rattle.etalis_cli.specs.Output.{Talk};
-ghost use Rattle.etalis_cli.specs.Feeds.{Between, FedTo, FeedsPart};
+ghost use Rattle.etalis_cli.specs.Feeds.{Between, FedTo, FeedsPart, Sends};
 
 use crate::session::Session;
 use flow_ports::{Failed, Sink, write_whole};
@@ -40,28 +40,25 @@ impl From<Failed> for FeedFault {
     }
 }
 
-// Reads a piece of the input, and appends the replies to the lines that it ends.
-fn answer_piece(
-    session: &mut Session,
-    reader: &mut LineReader,
-    piece: &[u8],
-    text: &mut Vec<u8>,
-) -> Result<(), AllocError>
-    requires { (t : Talk) × (part : List ℕ) × Between session.old reader.old t part
-        × (t.state.count + length piece.now < MOST_COPIES) }
-    ensures { (t : Talk) (part : List ℕ) → Between session.old reader.old t part → OnOk result (FedTo
-        record { talk = t; part = part; got = Some text.old.items }
-        session.new reader.new (Some text.new.items) piece.now) }
+/// Replies are gathered up to so many bytes.
+pub const MOST_GATHERED_BYTES: usize = 65_536;
+
+// Sends what was gathered once it is so much.
+fn send_full<O: Sink>(text: &mut Vec<u8>, out: &mut O) -> Result<(), Failed>
+    ensures ok { OnOk result (Sends (O.got out.old) (O.got out.new) text.old.items text.new.items) }
+    ensures err { OnErr result (GivesPart (O.got out.old) (O.got out.new) text.old.items) }
+    ensures few { OnOk result (vec_len text.new < MOST_GATHERED_BYTES) }
+    ensures count { CountsFaults (O.faults out.old) (O.faults out.new) result }
 {
-    reader.feed(piece)?;
-    while let Some(line) = reader.next_line() {
-        session.answer(line, text)?;
+    if text.len() >= MOST_GATHERED_BYTES {
+        write_whole(out, text)?;
+        text.clear();
     }
     Ok(())
 }
 
-/// Reads a piece of the input. The replies to the lines that it ends are gathered in the buffer
-/// `text`, and go out together.
+/// Reads a piece of the input. The replies to the lines that it ends are gathered in the buffer `text`. They go out once they are
+/// `MOST_GATHERED_BYTES`, and at the end of the piece.
 pub fn feed<O: Sink>(
     session: &mut Session,
     reader: &mut LineReader,
@@ -81,7 +78,11 @@ pub fn feed<O: Sink>(
     ensures count { OnOk result (O.faults out.new ≡ O.faults out.old) }
 {
     text.clear();
-    answer_piece(session, reader, piece, text)?;
+    reader.feed(piece)?;
+    while let Some(line) = reader.next_line() {
+        session.answer(line, text)?;
+        send_full(text, out)?;
+    }
     write_whole(out, text)?;
     Ok(())
 }

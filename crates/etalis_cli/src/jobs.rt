@@ -28,7 +28,8 @@ pub fn voice_of(mode: Mode) -> Voice
     ensures { result ≡ voice_of mode }
 {
     match mode {
-        Mode::Run | Mode::Check | Mode::Held => Voice::Replies,
+        Mode::Run | Mode::Check => Voice::Replies,
+        Mode::Held => Voice::Held,
         Mode::Scratch => Voice::Refusals,
         Mode::Drill => Voice::Counts,
     }

@@ -4,6 +4,7 @@
 mod accepting;
 mod feeding;
 mod jobs;
+mod keeping;
 mod laws;
 mod notes;
 mod refusals;

@@ -1,7 +1,8 @@
 // Lines to what they come to.
-ghost use Rattle.std.specs.Prelude.{◌≡◌, ◌<◌, ◌≤◌, ℕ, List, length, true, false, IfOk, OnOk};
+ghost use Rattle.std.specs.Prelude.{◌≡◌, ◌<◌, ◌≤◌, ℕ, List, length, true, false, is_some, IfOk, OnOk};
 ghost use Rattle.event_model.specs.Lines.{without_cr};
-ghost use Rattle.event_model.specs.Presence.{History, all_inputs, extended, settles, verdict, after_verdict};
+ghost use Rattle.event_model.specs.Presence.{History, all_inputs, extended, settles, judge, verdict, after_verdict};
+ghost use Rattle.event_model.specs.declared.inputs.Judgement.TheVariants.{Fine};
 ghost use Rattle.event_model.specs.declared.inputs.TheConstants.{MOST_LINE_BYTES};
 ghost use Rattle.line_reader.specs.Cutting.{IsLine};
 ghost use Rattle.pattern_meaning.specs.Replies.{change_by, says_nothing, reply, reply_to_input};
@@ -11,8 +12,10 @@ ghost use Rattle.etalis_core.specs.declared.present.TheConstants.{MOST_COPIES};
 ghost use Rattle.revision.specs.Holding.{counted as capped};
 ghost use Rattle.etalis_cli.specs.Output.{visits_told, visits_in};
 ghost use Rattle.etalis_cli.specs.Replying.{refusal_of, reply_by, HasVisits};
+ghost use Rattle.etalis_cli.specs.StandsFor.{KeepsAll};
 
-use etalis_core::Engine;
+use crate::keeping::keep;
+use etalis_core::{Engine, Roll};
 use event_changes::Progress;
 use event_model::{Input, Judgement, MOST_LINE_BYTES, Refusal};
 use event_reader::{LineFault, parse_line};
@@ -103,9 +106,16 @@ fn accept(engine: &mut Engine, input: Input) -> Result<bool, AllocError>
 }
 
 // Accepts an input that is fine.
-fn take_input(engine: &mut Engine, input: Input) -> Result<Answer, AllocError>
-    requires { (h : History) × CanBegin engine.old h input }
+fn take_input(
+    engine: &mut Engine,
+    roll: &mut Option<Roll>,
+    input: Input,
+) -> Result<Answer, AllocError>
+    requires { (h : History) × CanBegin engine.old h input × KeepsAll roll.old (late_of engine.old) h }
     ensures stands { (h : History) → StandsFor engine.old h → OnOk result (StandsFor engine.new (extended h input)) }
+    ensures all { (h : History) → StandsFor engine.old h → judge (late_of engine.old) h input ≡ Fine
+        → KeepsAll roll.old (late_of engine.old) h → OnOk result (KeepsAll roll.new (late_of engine.old) (extended h input)) }
+    ensures there { is_some roll.new ≡ is_some roll.old }
     ensures reply { (h : History) → StandsFor engine.old h → IfOk result (λ answer. (n : ℕ)
         → reply_by n answer (last_change engine.new) ≡ reply_to_input (rules_of engine.old) h n input) }
     ensures visits { (h : History) → StandsFor engine.old h → IfOk result (λ answer.
@@ -116,6 +126,7 @@ fn take_input(engine: &mut Engine, input: Input) -> Result<Answer, AllocError>
     ensures late { OnOk result (late_of engine.new ≡ late_of engine.old) }
 {
     let silent = says_nothing(&input);
+    keep(roll, engine.late(), &input)?;
     let settled = accept(engine, input)?;
     if !settled || silent {
         return Ok(Answer::Silent);
@@ -124,11 +135,21 @@ fn take_input(engine: &mut Engine, input: Input) -> Result<Answer, AllocError>
 }
 
 // Judges a line that isn't too long, and accepts it where it is fine.
-fn take_short(alloc: Global, engine: &mut Engine, line: &[u8]) -> Result<Answer, AllocError>
-    requires stands { (h : History) × StandsFor engine.old h × (length (all_inputs h) < MOST_COPIES) }
+fn take_short(
+    alloc: Global,
+    engine: &mut Engine,
+    roll: &mut Option<Roll>,
+    line: &[u8],
+) -> Result<Answer, AllocError>
+    requires stands { (h : History) × StandsFor engine.old h × KeepsAll roll.old (late_of engine.old) h
+        × (length (all_inputs h) < MOST_COPIES) }
     requires short { length line.now ≤ MOST_LINE_BYTES }
     ensures stands { (h : History) → StandsFor engine.old h → let judged = verdict (late_of engine.old) h (heard line.now) in
         OnOk result (StandsFor engine.new (after_verdict h judged)) }
+    ensures all { (h : History) → StandsFor engine.old h → KeepsAll roll.old (late_of engine.old) h
+        → let judged = verdict (late_of engine.old) h (heard line.now) in
+        OnOk result (KeepsAll roll.new (late_of engine.old) (after_verdict h judged)) }
+    ensures there { is_some roll.new ≡ is_some roll.old }
     ensures reply { (h : History) → StandsFor engine.old h → let judged = verdict (late_of engine.old) h (heard line.now) in
         IfOk result (λ answer. (n : ℕ)
         → reply_by n answer (last_change engine.new) ≡ reply (rules_of engine.old) h n judged) }
@@ -146,17 +167,27 @@ fn take_short(alloc: Global, engine: &mut Engine, line: &[u8]) -> Result<Answer,
     };
     match refusal_of(engine.judge(&input)) {
         Some(refusal) => Ok(Answer::Refused(refusal)),
-        None => take_input(engine, input),
+        None => take_input(engine, roll, input),
     }
 }
 
-/// Judges a line, and accepts it where it is fine. After an `Err` no more lines should follow.
-pub fn take_line(alloc: Global, engine: &mut Engine, line: Line<'_>) -> Result<Answer, AllocError>
-    requires stands { (h : History) × StandsFor engine.old h × (length (all_inputs h) < MOST_COPIES) }
+/// Judges a line, and accepts it where it is fine; a roll follows. After an `Err` no more lines should follow.
+pub fn take_line(
+    alloc: Global,
+    engine: &mut Engine,
+    roll: &mut Option<Roll>,
+    line: Line<'_>,
+) -> Result<Answer, AllocError>
+    requires stands { (h : History) × StandsFor engine.old h × KeepsAll roll.old (late_of engine.old) h
+        × (length (all_inputs h) < MOST_COPIES) }
     requires line { (raw : List ℕ) × IsLine line raw }
     ensures stands { (h : History) (raw : List ℕ) → StandsFor engine.old h → IsLine line.entry raw
         → let judged = verdict (late_of engine.old) h (heard (without_cr raw)) in
         OnOk result (StandsFor engine.new (after_verdict h judged)) }
+    ensures all { (h : History) (raw : List ℕ) → StandsFor engine.old h → KeepsAll roll.old (late_of engine.old) h
+        → IsLine line.entry raw → let judged = verdict (late_of engine.old) h (heard (without_cr raw)) in
+        OnOk result (KeepsAll roll.new (late_of engine.old) (after_verdict h judged)) }
+    ensures there { is_some roll.new ≡ is_some roll.old }
     ensures reply { (h : History) (raw : List ℕ) → StandsFor engine.old h → IsLine line.entry raw
         → let judged = verdict (late_of engine.old) h (heard (without_cr raw)) in
         IfOk result (λ answer. (n : ℕ)
@@ -170,7 +201,7 @@ pub fn take_line(alloc: Global, engine: &mut Engine, line: Line<'_>) -> Result<A
     ensures late { OnOk result (late_of engine.new ≡ late_of engine.old) }
 {
     match line {
-        Line::Bytes(bytes) => take_short(alloc, engine, bytes),
+        Line::Bytes(bytes) => take_short(alloc, engine, roll, bytes),
         Line::Long => Ok(Answer::Refused(Refusal::Syntax(MOST_LINE_BYTES as u64))),
     }
 }

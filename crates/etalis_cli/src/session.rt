@@ -1,19 +1,25 @@
 // What is kept from line to line.
-ghost use Rattle.std.specs.Prelude.{◌≡◌, ◌<◌, ◌++◌, ℕ, List, OnOk};
+ghost use Rattle.std.specs.Prelude.{◌≡◌, ◌<◌, ◌++◌, ℕ, List, IfOk, OnOk};
 
+use crate::keeping::roll_for;
 use crate::replying::take_line;
 use crate::telling::{count_answer, push_answer, push_standing};
 use crate::voices::{Tally, Voice};
 use detect_writer::{drill_text, end_text};
-use etalis_core::Engine;
+use etalis_core::{Engine, Roll};
+use event_model::Detection;
 use line_reader::Line;
+use pattern_meaning::scratch;
 use std::alloc::{AllocError, Global};
 
-/// An engine, how lines are answered, what was counted of the answers, and how many lines came.
+/// An engine, how lines are answered, what was counted of the answers, and how many lines came. Where what stands is told at the end,
+/// it keeps all events besides.
 #[derive(Drop)]
 pub struct Session {
     alloc: Global,
     engine: Engine,
+    // For `Voice::Refusals` alone, since the engine forgets events.
+    roll: Option<Roll>,
     voice: Voice,
     tally: Tally,
     count: u64,
@@ -28,6 +34,8 @@ impl Session {
     ghost use Rattle.etalis_core.specs.declared.present.TheConstants.{MOST_COPIES};
     ghost use Rattle.etalis_cli.specs.Output.{Talk, start, after_line, reply_to, closing};
     ghost use Rattle.etalis_cli.specs.StandsFor.{StandsFor, setting_of};
+    ghost use Rattle.etalis_cli.specs.declared.voices.Voice.TheVariants.{Refusals};
+    ghost use Rattle.pattern_meaning.specs.Replies.{standing_after};
 
     /// Before the first line, over an engine to which no input came.
     pub fn new(alloc: Global, engine: Engine, voice: Voice) -> Session
@@ -38,11 +46,13 @@ impl Session {
         Session {
             alloc,
             engine,
+            roll: roll_for(alloc, voice),
             voice,
             tally: Tally {
                 told: 0,
                 withdrawn: 0,
                 visits: 0,
+                held: 0,
             },
             count: 0,
         }
@@ -59,11 +69,24 @@ impl Session {
             → OnOk result (StandsFor self.new (after_line t (without_cr raw))) }
     {
         let number = self.count + 1;
-        let answer = take_line(self.alloc, &mut self.engine, line)?;
+        let answer = take_line(self.alloc, &mut self.engine, &mut self.roll, line)?;
         push_answer(&self.engine, self.voice, number, answer, out)?;
         self.tally = count_answer(&self.engine, self.voice, answer, self.tally);
         self.count = number;
         Ok(())
+    }
+
+    // What stands, found from all events.
+    fn standing(&self) -> Result<Vec<Detection>, AllocError>
+        requires stands { (t : Talk) × StandsFor self.now t }
+        requires all { self.now.voice ≡ Refusals }
+        ensures { (t : Talk) → StandsFor self.now t
+            → IfOk result (λ v. v.items ≡ standing_after (rules_of self.now.engine) t.state.history) }
+    {
+        match &self.roll {
+            Some(roll) => scratch(self.alloc, self.engine.checked(), &roll.events()?),
+            None => Ok(Vec::new(self.alloc)),
+        }
     }
 
     /// Appends what stands behind the answers to all lines.
@@ -72,20 +95,18 @@ impl Session {
         ensures { (t : Talk) → StandsFor self.now t → OnOk result (out.new.items ≡ out.old.items ++ closing t) }
     {
         match self.voice {
-            Voice::Replies => end_text(self.count, self.engine.in_batch(), out),
+            Voice::Replies | Voice::Held => end_text(self.count, self.engine.in_batch(), out),
             Voice::Refusals => {
-                push_standing(&self.engine.standing(self.alloc)?, out)?;
+                push_standing(&self.standing()?, out)?;
                 end_text(self.count, self.engine.in_batch(), out)
             }
-            Voice::Counts => {
-                drill_text(
-                    self.tally.told,
-                    self.tally.withdrawn,
-                    self.tally.visits,
-                    0,
-                    out,
-                )
-            },
+            Voice::Counts => drill_text(
+                self.tally.told,
+                self.tally.withdrawn,
+                self.tally.visits,
+                self.tally.held,
+                out,
+            ),
         }
     }
 }

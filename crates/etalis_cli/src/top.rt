@@ -153,10 +153,11 @@ fn work<S: Shelf, I: Source, O: Sink>(
     }
 }
 
-/// Does the job of the words with the rule file. Mode `run` reads the lines and writes the replies. Mode `scratch` reads the lines, and
-/// writes the refusals and then what stands. Mode `check` writes the canonical text of the rules, and mode `drill` how many detections
-/// are told and withdrawn over lines that a seed makes; these two don't touch the source. A note says why the run ended, where it
-/// wasn't done; a failure to write the note is dropped.
+/// Does the job of the words with the rule file. Mode `run` reads the lines and writes the replies; mode `held` does so too, and writes
+/// behind each `ok N` how many rows and events are held. Mode `scratch` reads the lines, and writes the refusals and then what stands.
+/// Mode `check` writes the canonical text of the rules, and mode `drill` how many detections are told and withdrawn over lines that a
+/// seed makes, how many visits that takes and how many rows are held at most; these two don't touch the source. A note says why the
+/// run ended, where it wasn't done; a failure to write the note is dropped.
 pub fn run<S: Shelf, I: Source, O: Sink, N: Sink>(
     alloc: Global,
     words: &[String],

@@ -100,6 +100,7 @@ mode_said word =
     if bytes_eq word (codes "run") then Some Run
     else if bytes_eq word (codes "check") then Some Check
     else if bytes_eq word (codes "scratch") then Some Scratch
+    else if bytes_eq word (codes "held") then Some Held
     else if bytes_eq word (codes "drill") then Some Drill
     else None
 

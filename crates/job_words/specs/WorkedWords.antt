@@ -2,7 +2,7 @@
 use Rattle.std.specs.Prelude.{◌≡◌, refl, [], ◌∷◌, Option, Some, None, codes, ℕ}
 use Rattle.clap.proofs.OnLiterals.{clap_on_literals}
 use Rattle.job_words.specs.Words.{PlainJob, Text, InForm, Late, Alone, Apart, Joined}
-use Rattle.job_words.specs.declared.jobs.Mode.TheVariants.{Run, Drill}
+use Rattle.job_words.specs.declared.jobs.Mode.TheVariants.{Run, Held, Drill}
 use Rattle.job_words.specs.Account.{account}
 
 abbrev run_job : Text → Option ℕ → PlainJob
@@ -72,9 +72,14 @@ past_limit : account (codes "run" ∷ codes "x" ∷ codes "--late" ∷ codes "46
 unfolding clap_on_literals
 past_limit = refl
 
-held_unsaid : account (codes "held" ∷ codes "x" ∷ []) ≡ None
+held_late : account (codes "held" ∷ codes "--late" ∷ codes "5" ∷ codes "x" ∷ []) ≡ Some
+    (record { mode = Held; rules = codes "x"; late = Some 5; seed = 1; lines = 1000 })
 unfolding clap_on_literals
-held_unsaid = refl
+held_late = refl
+
+held_no_seed : account (codes "held" ∷ codes "x" ∷ codes "--seed" ∷ codes "5" ∷ []) ≡ None
+unfolding clap_on_literals
+held_no_seed = refl
 
 -- ---- how such words are written
 

@@ -20,7 +20,6 @@ pub enum Mode {
     Run,
     Check,
     Scratch,
-    /// No words say this one yet.
     Held,
     Drill,
 }

@@ -15,6 +15,7 @@ fn mode_said(word: &str) -> Option<Mode>
         "run" => Some(Mode::Run),
         "check" => Some(Mode::Check),
         "scratch" => Some(Mode::Scratch),
+        "held" => Some(Mode::Held),
         "drill" => Some(Mode::Drill),
         _ => None,
     }

@@ -13,7 +13,7 @@ fn list(alloc: Global, words: &[&str]) -> Result<Vec<String>, AllocError> {
 
 #[test]
 fn words_say_jobs(rt: HostRuntime) -> Result<(), Fail> {
-    let table: [(&[&str], Option<(Mode, &str, Option<u64>, u64, u64)>); 16] = [
+    let table: [(&[&str], Option<(Mode, &str, Option<u64>, u64, u64)>); 17] = [
         (&["run", "r"], Some((Mode::Run, "r", None, 1, 1000))),
         (
             &["run", "-", "--late", "5"],
@@ -39,7 +39,11 @@ fn words_say_jobs(rt: HostRuntime) -> Result<(), Fail> {
         (&["run", "r", "--late", "+5"], None),
         (&["run", "r", "--late="], None),
         (&["run", "r", "--seed", "1"], None),
-        (&["held", "r"], None),
+        (
+            &["held", "--late=2", "r"],
+            Some((Mode::Held, "r", Some(2), 1, 1000)),
+        ),
+        (&["held", "r", "--lines", "3"], None),
         (&["run"], None),
         (&["run", "r", "--help"], None),
     ];

@@ -58,7 +58,7 @@ pub(crate) fn run_over(
         setting.pieces.to_vec(alloc)?,
         setting.input_fails.to_vec(alloc)?,
     );
-    let mut out = MemSink::new(alloc, 4096, setting.out_fails.to_vec(alloc)?)?;
+    let mut out = MemSink::new(alloc, 131_072, setting.out_fails.to_vec(alloc)?)?;
     let mut notes = MemSink::new(alloc, 4096, setting.notes_fail.to_vec(alloc)?)?;
     let status = run(alloc, &words, &mut shelf, &mut source, &mut out, &mut notes);
     Ok(Ran { status, out, notes })

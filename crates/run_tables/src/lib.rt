@@ -4,6 +4,8 @@
 #[cfg(test)]
 mod agreement;
 #[cfg(test)]
+mod failing;
+#[cfg(test)]
 mod fixtures;
 #[cfg(test)]
 mod modes;

@@ -14,6 +14,8 @@ use std::test::Fail;
 
 const AB_ANY: &[u8] = b"ab <- a(_) SEQ b(_).";
 
+const WINDOW: &[u8] = b"w <- (a SEQ b) WITHIN 4.";
+
 const WITHIN: &str = "w(X) <- (a(X) SEQ b(X)) WITHIN 6.";
 
 #[test]
@@ -33,7 +35,7 @@ fn words_give_a_job(rt: HostRuntime) -> Result<(), Fail> {
 // Options in any place and with `=`, and what each mode writes.
 #[test]
 fn words_say_what_is_done(rt: HostRuntime) -> Result<(), Fail> {
-    let rows: [(&[&str], &[u8], &[u8], &[u8]); 12] = [
+    let rows: [(&[&str], &[u8], &[u8], &[u8]); 15] = [
         (
             &["--late=10", "run", "r"],
             AB,
@@ -73,16 +75,34 @@ fn words_say_what_is_done(rt: HostRuntime) -> Result<(), Fail> {
         ),
         (&["--", "scratch", "r"], AB, b"", b"end 0\n"),
         (
+            &["held", "r"],
+            WINDOW,
+            b"+ 6 a\n! 10\n+ 10 b\n",
+            b"ok 1\nheld 2 1\nok 2\nheld 1 0\n+ 6 10 w\nok 3\nheld 7 1\nend 3\n",
+        ),
+        (
+            &["held", "r"],
+            WINDOW,
+            b"+ 6 a\n! 11\n+ 11 b\n",
+            b"ok 1\nheld 2 1\nok 2\nheld 0 0\nok 3\nheld 2 1\nend 3\n",
+        ),
+        (
+            &["held", "r"],
+            AB,
+            b"+ 1 a(7)\n+ 2 b(7)\n! 3\n",
+            b"ok 1\nheld 2 1\n+ 1 2 ab(7)\nok 2\nheld 7 2\nok 3\nheld 2 0\nend 3\n",
+        ),
+        (
             &["drill", "r", "--seed", "1", "--lines", "4"],
             AB_ANY,
             b"+ 1 a(7)\n",
-            b"drill 1 0 5 0\n",
+            b"drill 1 0 5 7\n",
         ),
         (
             &["--lines=4", "drill", "--late", "10", "r"],
             AB_ANY,
             b"",
-            b"drill 1 0 5 0\n",
+            b"drill 1 0 5 7\n",
         ),
         (
             &["drill", "r", "--lines=0"],
@@ -101,14 +121,15 @@ fn words_say_what_is_done(rt: HostRuntime) -> Result<(), Fail> {
 // A source that fails is noticed where it is read alone.
 #[test]
 fn some_modes_leave_the_source_alone(rt: HostRuntime) -> Result<(), Fail> {
-    let rows: [(&[&str], Status, &[u8]); 4] = [
+    let rows: [(&[&str], Status, &[u8]); 5] = [
         (&["run", "r"], Status::ReadFault, b""),
+        (&["held", "r"], Status::ReadFault, b""),
         (&["scratch", "r"], Status::ReadFault, b""),
         (&["check", "r"], Status::Done, b"ab <- a(_) SEQ b(_).\n"),
         (
             &["drill", "r", "--lines", "4"],
             Status::Done,
-            b"drill 1 0 5 0\n",
+            b"drill 1 0 5 7\n",
         ),
     ];
     for row in rows {
@@ -126,7 +147,8 @@ fn some_modes_leave_the_source_alone(rt: HostRuntime) -> Result<(), Fail> {
 // An output that fails before anything went out, and behind the first refusal.
 #[test]
 fn every_mode_tells_a_failed_output(rt: HostRuntime) -> Result<(), Fail> {
-    let rows: [(&[&str], &[u64], &[u8]); 4] = [
+    let rows: [(&[&str], &[u64], &[u8]); 5] = [
+        (&["held", "r"], &[2], b"no 1 syntax 0\n"),
         (&["scratch", "r"], &[1], b""),
         (&["scratch", "r"], &[2], b"no 1 syntax 0\n"),
         (&["check", "r"], &[1], b""),
@@ -228,8 +250,8 @@ fn same_argument(one: &Event, other: &Event) -> bool {
     }
 }
 
-// How many events of the other name, each once, are partners of one by `a(X) SEQ b(X)`.
-fn partners(events: &[Event], one: &Event) -> u128 {
+// How many events of the other name, each once, are partners of one by `a(X) SEQ b(X)` within 6, of those that still count at a bound.
+fn partners(events: &[Event], bound: u64, one: &Event) -> u128 {
     let is_left = one.atom.name.as_str() == "a";
     let mut found: u128 = 0;
     for place in 0..events.len() {
@@ -242,6 +264,7 @@ fn partners(events: &[Event], one: &Event) -> u128 {
         };
         if !seen
             && behind
+            && other.time().saturating_add(6) >= bound
             && one.atom.name.as_str() != other.atom.name.as_str()
             && same_argument(one, other)
         {
@@ -256,21 +279,57 @@ fn copies(events: &[Event], event: &Event) -> usize {
 }
 
 // How many visits an input makes over the events before it: one for an event that comes first or goes last, and one for each partner.
-fn visits(events: &[Event], input: &Input) -> u128 {
+fn visits(events: &[Event], bound: u64, input: &Input) -> u128 {
     match input {
         Input::Add(event) if copies(events, event) == 0 => {
-            partners(events, event).saturating_add(1)
+            partners(events, bound, event).saturating_add(1)
         }
         Input::Take(event) if copies(events, event) == 1 => {
-            partners(events, event).saturating_add(1)
+            partners(events, bound, event).saturating_add(1)
         }
         _ => 0,
     }
 }
 
-// What a drill writes over so many lines, all of which are accepted: what stands is found from scratch before and after each, and
-// partners by looking at all events.
-fn drilled(alloc: Global, rules: &Checked, lines: &[u8], count: usize) -> Result<Vec<u8>, Fail> {
+// How far an input raises the bound, with a lateness of 10.
+fn raised(input: &Input) -> u64 {
+    match input {
+        Input::Add(event) => event.time().saturating_sub(10),
+        _ => 0,
+    }
+}
+
+// The most rows that are held behind one of these lines, by what mode `held` writes.
+fn most_held(alloc: Global, rules: &[u8], lines: &[u8]) -> Result<u64, Fail> {
+    let ran = run_over(alloc, &["held", "r", "--late", "10"], rules, lines, CALM)?;
+    let Ok(text) = str::from_utf8(ran.out.bytes()) else {
+        return Err(Fail::new("no text"));
+    };
+    let mut most = 0;
+    for line in text.lines() {
+        let Some(numbers) = line.strip_prefix("held ") else {
+            continue;
+        };
+        let Some((rows, _events)) = numbers.split_once(' ') else {
+            return Err(Fail::new("one number"));
+        };
+        let Ok(rows) = rows.parse::<u64>() else {
+            return Err(Fail::new("no number"));
+        };
+        most = rows.max(most);
+    }
+    Ok(most)
+}
+
+// What a drill writes over so many lines, all of which are accepted: what stands is found from scratch before and after each,
+// partners by looking at all events, and the rows that are held by another run.
+fn drilled(
+    alloc: Global,
+    rules: &Checked,
+    lines: &[u8],
+    count: usize,
+    held: u64,
+) -> Result<Vec<u8>, Fail> {
     let mut reader = LineReader::new(alloc);
     reader.feed(lines)?;
     let mut events = Vec::new(alloc);
@@ -278,9 +337,11 @@ fn drilled(alloc: Global, rules: &Checked, lines: &[u8], count: usize) -> Result
     let mut told: u128 = 0;
     let mut withdrawn: u128 = 0;
     let mut made: u128 = 0;
+    let mut bound: u64 = 0;
     for _line in 0..count {
         let input = next_input(alloc, &mut reader)?;
-        made = made.saturating_add(visits(&events, &input));
+        made = made.saturating_add(visits(&events, bound, &input));
+        bound = bound.max(raised(&input));
         follow(&mut events, input)?;
         let after = scratch(alloc, rules, &events)?;
         told = told.saturating_add(missing(&after, &before));
@@ -288,7 +349,7 @@ fn drilled(alloc: Global, rules: &Checked, lines: &[u8], count: usize) -> Result
         before = after;
     }
     let mut text = Vec::new(alloc);
-    drill_text(told, withdrawn, made, 0, &mut text)?;
+    drill_text(told, withdrawn, made, held, &mut text)?;
     Ok(text)
 }
 
@@ -301,7 +362,8 @@ fn a_drill_counts_what_comes_and_goes(rt: HostRuntime) -> Result<(), Fail> {
     let Ok(rules) = check(rt.alloc(), rules) else {
         return Err(Fail::new("no sound rules"));
     };
-    let wanted = drilled(rt.alloc(), &rules, &lines, 300)?;
+    let held = most_held(rt.alloc(), WITHIN.as_bytes(), &lines)?;
+    let wanted = drilled(rt.alloc(), &rules, &lines, 300, held)?;
     let words = [
         "drill", "r", "--late", "10", "--lines", "300", "--seed", "7",
     ];

@@ -1,7 +1,19 @@
-use Rattle.std.proofs.Common.{◌≡◌, false, true, sym, ap, ◌∙◌, inl, inr}
+use Rattle.std.proofs.Common.{◌≡◌, sym, ◌∙◌, subst, inl, inr}
 use Rattle.etalis_core.specs.StandsFor.{rules_of, late_of, last_change, visits_of}
-use Rattle.etalis_cli.proofs.ReplyLaws.{silent_reply, told_reply, told_visits}
+use Rattle.etalis_cli.specs.StandsFor.{KeepsAll}
+use Rattle.etalis_cli.proofs.ReplyLaws.{keeps_on, silent_reply, told_reply, told_visits}
 use Rattle.etalis_cli.proofs.replying.take_input.Goals as goal
+
+pub keep-requires : goal.keep-requires
+keep-requires c = let (h, can, all) = c.requires in (h, subst (λ l. KeepsAll c.args.roll.now l h) (sym c.late.ensures) all, can.room)
+
+pub returns-then-not-settled-clause-all : goal.returns-then-not-settled-clause-all
+returns-then-not-settled-clause-all c = λ h s fine all.
+    keeps_on c.args.roll.now c.keep.new.roll _ _ h c.args.input c.late.ensures (c.in_ok-keep.ensures.all h) all s.accepted fine
+
+pub returns-clause-all : goal.returns-clause-all
+returns-clause-all c = λ h s fine all.
+    keeps_on c.args.roll.now c.keep.new.roll _ _ h c.args.input c.late.ensures (c.in_ok-keep.ensures.all h) all s.accepted fine
 
 pub returns-then-not-settled-clause-reply : goal.returns-then-not-settled-clause-reply
 returns-then-not-settled-clause-reply c = λ h s n.

@@ -6,6 +6,7 @@ use Rattle.event_model.specs.declared.inputs.TheConstants.{MOST_LINE_BYTES}
 use Rattle.line_reader.specs.Cutting.{IsLine}
 use Rattle.event_reader.specs.Machine.{heard}
 use Rattle.etalis_core.specs.StandsFor.{StandsFor, rules_of, late_of}
+use Rattle.etalis_cli.specs.StandsFor.{KeepsAll}
 use Rattle.etalis_cli.proofs.ReplyLaws.{fails, refused_reply, refused_history}
 use Rattle.etalis_cli.proofs.SessionLaws.{heard_long}
 use Rattle.etalis_cli.proofs.replying.take_line.Goals as goal
@@ -22,6 +23,13 @@ returns-in-Long-clause-stands c = λ h raw p is.
     let late = late_of c.args.engine.now in
     let says = heard_long line (subst (λ line. IsLine line raw) c.in-Long.is is) in
     subst (StandsFor c.args.engine.now) (refused_history h (verdict late h (heard line)) (Syntax MOST_LINE_BYTES) (fails late h line MOST_LINE_BYTES says)) p
+
+pub returns-in-Long-clause-all : goal.returns-in-Long-clause-all
+returns-in-Long-clause-all c = λ h raw p all is.
+    let line = without_cr raw in
+    let late = late_of c.args.engine.now in
+    let says = heard_long line (subst (λ line. IsLine line raw) c.in-Long.is is) in
+    subst (KeepsAll c.args.roll.now late) (refused_history h (verdict late h (heard line)) (Syntax MOST_LINE_BYTES) (fails late h line MOST_LINE_BYTES says)) all
 
 pub returns-in-Long-clause-reply : goal.returns-in-Long-clause-reply
 returns-in-Long-clause-reply c = λ h raw p is n.

@@ -6,6 +6,7 @@ use Rattle.event_reader.specs.Machine.{heard}
 use Rattle.event_reader.proofs.LineLaws.{heard_short}
 use Rattle.etalis_core.specs.StandsFor.{StandsFor, rules_of, late_of, last_change, visits_of}
 use Rattle.etalis_cli.specs.Replying.{refusal_of}
+use Rattle.etalis_cli.specs.StandsFor.{KeepsAll}
 use Rattle.etalis_cli.proofs.ReplyLaws.{fails, says_refused, says_accepted, refused_reply, refused_history, accepted_history, accepted_answer, accepted_visits, not_refused, may_begin}
 use Rattle.etalis_cli.proofs.replying.take_short.Goals as goal
 
@@ -16,6 +17,13 @@ returns-in-Err-Syntax-clause-stands c = λ h p.
     let says = heard_short line (Fails c.in-Err-Syntax.at) (rw c.in-Err-Syntax.field-0-is at c.in-Err-Syntax.ensures) in
     subst (StandsFor c.args.engine.now) (refused_history h (verdict late h (heard line)) (Syntax c.in-Err-Syntax.at) (fails late h line c.in-Err-Syntax.at says)) p
 
+pub returns-in-Err-Syntax-clause-all : goal.returns-in-Err-Syntax-clause-all
+returns-in-Err-Syntax-clause-all c = λ h p all.
+    let line = c.args.line.now in
+    let late = late_of c.args.engine.now in
+    let says = heard_short line (Fails c.in-Err-Syntax.at) (rw c.in-Err-Syntax.field-0-is at c.in-Err-Syntax.ensures) in
+    subst (KeepsAll c.args.roll.now late) (refused_history h (verdict late h (heard line)) (Syntax c.in-Err-Syntax.at) (fails late h line c.in-Err-Syntax.at says)) all
+
 pub returns-in-Err-Syntax-clause-reply : goal.returns-in-Err-Syntax-clause-reply
 returns-in-Err-Syntax-clause-reply c = λ h p n.
     let line = c.args.line.now in
@@ -25,8 +33,8 @@ returns-in-Err-Syntax-clause-reply c = λ h p n.
 
 pub take_input-requires : goal.take_input-requires
 take_input-requires c =
-    let (h, p, few) = c.requires.stands in
-    (h, may_begin c.args.engine.now h c.in-Ok.input p (not_refused _ (sym (ap refusal_of (c.judge.ensures h p)) ∙ sym c.refusal_of.ensures ∙ c.in-None.is)) few)
+    let (h, p, all, few) = c.requires.stands in
+    (h, may_begin c.args.engine.now h c.in-Ok.input p (not_refused _ (sym (ap refusal_of (c.judge.ensures h p)) ∙ sym c.refusal_of.ensures ∙ c.in-None.is)) few, all)
 
 pub returns-in-Some-clause-stands : goal.returns-in-Some-clause-stands
 returns-in-Some-clause-stands c = λ h p.
@@ -34,6 +42,13 @@ returns-in-Some-clause-stands c = λ h p.
     let late = late_of c.args.engine.now in
     let refuses = says_refused late h line c.in-Ok.input c.in-Some.refusal (heard_short line (Says c.in-Ok.input) c.in-Ok.ensures) (sym (ap refusal_of (c.judge.ensures h p)) ∙ sym c.refusal_of.ensures ∙ c.in-Some.is) in
     subst (StandsFor c.args.engine.now) (refused_history h (verdict late h (heard line)) c.in-Some.refusal refuses) p
+
+pub returns-in-Some-clause-all : goal.returns-in-Some-clause-all
+returns-in-Some-clause-all c = λ h p all.
+    let line = c.args.line.now in
+    let late = late_of c.args.engine.now in
+    let refuses = says_refused late h line c.in-Ok.input c.in-Some.refusal (heard_short line (Says c.in-Ok.input) c.in-Ok.ensures) (sym (ap refusal_of (c.judge.ensures h p)) ∙ sym c.refusal_of.ensures ∙ c.in-Some.is) in
+    subst (KeepsAll c.args.roll.now late) (refused_history h (verdict late h (heard line)) c.in-Some.refusal refuses) all
 
 pub returns-in-Some-clause-reply : goal.returns-in-Some-clause-reply
 returns-in-Some-clause-reply c = λ h p n.
@@ -49,6 +64,15 @@ returns-in-None-clause-stands c = λ h p.
     let fine = not_refused _ (sym (ap refusal_of (c.judge.ensures h p)) ∙ sym c.refusal_of.ensures ∙ c.in-None.is) in
     let takes = says_accepted late h line c.in-Ok.input (heard_short line (Says c.in-Ok.input) c.in-Ok.ensures) fine in
     on_ok_weaker c.take_input.result (λ s. subst (StandsFor c.take_input.new.engine) (accepted_history h (verdict late h (heard line)) c.in-Ok.input takes) s) (c.take_input.ensures.stands h p)
+
+pub returns-in-None-clause-all : goal.returns-in-None-clause-all
+returns-in-None-clause-all c = λ h p all.
+    let line = c.args.line.now in
+    let late = late_of c.args.engine.now in
+    let fine = not_refused _ (sym (ap refusal_of (c.judge.ensures h p)) ∙ sym c.refusal_of.ensures ∙ c.in-None.is) in
+    let takes = says_accepted late h line c.in-Ok.input (heard_short line (Says c.in-Ok.input) c.in-Ok.ensures) fine in
+    on_ok_weaker c.take_input.result (λ k. subst (KeepsAll c.take_input.new.roll late) (accepted_history h (verdict late h (heard line)) c.in-Ok.input takes) k)
+    (c.take_input.ensures.all h p fine all)
 
 pub returns-in-None-clause-reply : goal.returns-in-None-clause-reply
 returns-in-None-clause-reply c = λ h p.
