@@ -418,36 +418,6 @@ fn each_fault_has_its_status_and_note(rt: HostRuntime) -> Result<(), Fail> {
     Ok(())
 }
 
-// A hundred events of one name, and fifty of another. Each of these has a hundred detections, so the replies to the one piece are 85,950
-// bytes. The first call gets whole replies as soon as they are 65,536 bytes.
-#[test]
-fn long_replies_go_out_before_the_piece_ends(rt: HostRuntime) -> Result<(), Fail> {
-    let mut input = Vec::new(rt.alloc());
-    for (name, tens) in [(b'a', 10u8), (b'b', 5u8)] {
-        for ten in 0..tens {
-            for one in 0..10u8 {
-                let time = if name == b'a' { b'1' } else { b'2' };
-                input.extend_from_slice(&[b'+', b' ', time, b' ', name, b'(', b'1'])?;
-                input.extend_from_slice(&[b'0' + ten, b'0' + one, b')', b'\n'])?;
-            }
-        }
-    }
-    let rules = b"p(X,Y) <- a(X) SEQ b(Y).";
-    let words: &[&str] = &["run", "r"];
-    let whole = run_over(rt.alloc(), words, rules, &input, CALM)?;
-    assert_eq!(rt; whole.status, Status::Done);
-    assert_eq!(rt; whole.out.bytes().len(), 85_950);
-    let setting = Setting {
-        out_fails: &[2],
-        ..CALM
-    };
-    let ran = run_over(rt.alloc(), words, rules, &input, setting)?;
-    assert_eq!(rt; ran.status, Status::WriteFault);
-    assert_eq!(rt; ran.out.bytes(), &whole.out.bytes()[..67_165]);
-    assert!(rt; ran.out.bytes().ends_with(b"ok 139\n"));
-    Ok(())
-}
-
 #[test]
 fn refusals_write_nothing_but_their_note(rt: HostRuntime) -> Result<(), Fail> {
     let usage: &[u8] = b"etalis: usage: etalis MODE RULES [--late N] [--seed N] [--lines N]\n";
