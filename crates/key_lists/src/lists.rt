@@ -6,6 +6,7 @@ ghost use Rattle.ordered_lists.specs.Canon.{has, place, Rising, Exact};
 ghost use Rattle.key_lists.specs.Lists.{list_in, InOrder};
 
 use crate::groups::{Probe, remove_like, remove_unique};
+use crate::slack::{trim_list, trim_lists};
 use ordered_lists::insert_unique;
 use std::alloc::{AllocError, Global};
 use std::collections::HashMap;
@@ -69,10 +70,12 @@ impl<T: Ord + Drop> KeyLists<T> {
         let mut empty = false;
         if let Some(items) = self.lists.get_mut(&key) {
             remove_unique(items, item);
+            trim_list(items);
             empty = items.is_empty();
         }
         if empty {
             self.lists.remove(&key);
+            trim_lists(&mut self.lists);
         }
     }
 
@@ -110,10 +113,12 @@ impl<T: Ord + Drop> KeyLists<T> {
         let mut none_left = false;
         if let Some(items) = self.lists.get_mut(&key) {
             remove_like(items, probe);
+            trim_list(items);
             none_left = items.is_empty();
         }
         if none_left {
             self.lists.remove(&key);
+            trim_lists(&mut self.lists);
         }
     }
 

@@ -1,13 +1,14 @@
--- A change of values alone keeps the table; a value names its row and step.
-use Rattle.std.proofs.Common.{ℕ, ◌≡◌, ◌==◌, ◌⊎◌, Some, None, List, [], ◌∷◌, cond, refl, ap, sym, ◌∙◌}
+-- A change of values alone keeps the table, and so does room that is given back; a value names its row and step.
+use Rattle.std.proofs.Common.{ℕ, ◌≡◌, ◌==◌, ◌⊎◌, Some, None, List, [], ◌∷◌, cond, refl, ap, sym, ◌∙◌, inl, inr}
 use Rattle.std.proofs.lemmas.Bool.{eq-eqb}
+use Rattle.std.specs.Option.{option_map}
 use Rattle.row_table.specs.Pairs.{get}
 use Rattle.std.specs.HashMap.{HashMap}
 use Rattle.std.specs.HashMap as by_hash
 use Rattle.std.specs.BTreeMap.{BTreeMap}
 use Rattle.std.specs.BTreeMap as by_order
 use Rattle.std.specs.declared.cmp.Ordering.{Ordering}
-use Rattle.slab.specs.Slab.{Slab}
+use Rattle.slab.specs.Slab.{Slab, SameValues}
 use Rattle.row_table.specs.Tables.{key_of, IsTable}
 use Rattle.row_table.specs.declared.keys.Entry.{Entry}
 
@@ -26,6 +27,21 @@ module _ {K V S : Type 0} (code : K → ℕ) (cmp : K → K → Ordering) (first
 
       unique : (n m : ℕ) (k : K) → key_of t n ≡ Some k → key_of t m ≡ Some k → n ≡ m
       unique n m k e f = old.unique n m k (sym (same n) ∙ e) (sym (same m) ∙ f)
+
+  pub table_trimmed : (s t : Slab (Entry K V)) (firsts' : HashMap ℕ ℕ S) → IsTable code cmp s firsts rest → SameValues s t → ((h : ℕ) → by_hash.get ◌==◌ firsts' h ≡ by_hash.get ◌==◌ firsts h) → IsTable code cmp t firsts' rest
+  table_trimmed s t firsts' old same gets = record { first = first; second = kept.second; found = found; apart = apart; unique = kept.unique }
+    where
+      kept : IsTable code cmp t firsts rest
+      kept = table_kept s t old (λ m. ap (λ o. option_map (λ e. e.key) o) (same m))
+
+      first : (h n : ℕ) → by_hash.get ◌==◌ firsts' h ≡ Some n → (k : K) × (key_of t n ≡ Some k) × (code k ≡ h)
+      first h n e = kept.first h n (sym (gets h) ∙ e)
+
+      found : (n : ℕ) (k : K) → key_of t n ≡ Some k → (by_hash.get ◌==◌ firsts' (code k) ≡ Some n) ⊎ (by_order.get cmp rest k ≡ Some n)
+      found n k e = elim (kept.found n k e) [ inl x ↦ inl (gets (code k) ∙ x) | inr x ↦ inr x ]
+
+      apart : (k : K) (n : ℕ) → by_order.get cmp rest k ≡ Some n → by_hash.get ◌==◌ firsts' (code k) ≡ Some n → ⊥
+      apart k n e f = kept.apart k n e (sym (gets (code k)) ∙ f)
 
 none_some : {X : Type 0} (x : X) → None ≡ Some x → ⊥
 none_some x e = cc

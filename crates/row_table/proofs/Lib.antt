@@ -2,3 +2,4 @@ pub mod Pairs
 pub mod Place
 pub mod Taken
 pub mod Kept
+pub mod Behind

@@ -45,10 +45,10 @@ module _ (ks : List ℕ) (rise : Rise ks) (at : ℕ) where
       grind (arith, key_below i, key_above i, key_below j, key_above j, rise i j, rise i (j + 1), rise (i + 1) (j + 1))
 
 module _ {V : Type 0} where
-  length-keys : (l : List (ℕ × V)) → length (keys l) ≡ length l
+  pub length-keys : (l : List (ℕ × V)) → length (keys l) ≡ length l
   length-keys l = length-map l (λ p. p.0)
 
-  key_is : (l : List (ℕ × V)) (i : ℕ) (d : ℕ × V) → i < length l → key_at l i ≡ (get_or l i d).0
+  pub key_is : (l : List (ℕ × V)) (i : ℕ) (d : ℕ × V) → i < length l → key_at l i ≡ (get_or l i d).0
   key_is l i d lt = get_or-map (λ p. p.0) l i d 0 lt
 
   -- one equation for every key gives the contract's two facts

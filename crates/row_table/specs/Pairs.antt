@@ -1,5 +1,5 @@
 -- A map as a list of pairs of a key and a value.
-use Rattle.std.specs.Prelude.{◌≡◌, ℕ, ◌<◌, ◌≤◌, ◌≢◌, List, [], ◌∷◌, length, map, if◌then◌else◌, ◌==◌, slice_index_or, Some, None, Option}
+use Rattle.std.specs.Prelude.{◌≡◌, ℕ, ◌<◌, ◌≤◌, ◌≢◌, Bool, true, false, List, [], ◌∷◌, length, map, if◌then◌else◌, ◌==◌, nat_lt, slice_index_or, Some, None, Option, IsSome}
 
 module _ {V : Type 0} where
   -- the value of the first pair that has the key
@@ -42,3 +42,23 @@ pub record SetsOnly {V : Type 0} (old new : List (ℕ × V)) (key : ℕ) (value 
 pub record Drops {V : Type 0} (old new : List (ℕ × V)) (key : ℕ) : Type 0 where
   pub this_key : get new key ≡ None
   pub other_keys : (k : ℕ) → k ≢ key → get new k ≡ get old k
+
+-- whether a key comes behind another, or behind none
+abbrev pub is_behind : Option ℕ → ℕ → Bool
+is_behind None key = true
+is_behind (Some last) key = nat_lt last key
+
+-- no key behind another has a value
+abbrev pub NoneBehind : {V : Type 0} → (ℕ → Option V) → Option ℕ → Type 0
+NoneBehind value last = (k : ℕ) → is_behind last k ≡ true → value k ≡ None
+
+-- of the keys that have a value this is the first behind another
+pub record IsNext {V : Type 0} (value : ℕ → Option V) (last : Option ℕ) (key : ℕ) : Type 0 where
+  pub there : IsSome (value key)
+  pub behind : is_behind last key ≡ true
+  pub none_between : (k : ℕ) → is_behind last k ≡ true → k < key → value k ≡ None
+
+-- the keys behind another stand from place i on
+pub record IsPlaceBehind {V : Type 0} (l : List (ℕ × V)) (last : Option ℕ) (i : ℕ) : Type 0 where
+  pub before : (j : ℕ) → j < i → is_behind last (key_at l j) ≡ false
+  pub from : (j : ℕ) → i ≤ j → j < length l → is_behind last (key_at l j) ≡ true

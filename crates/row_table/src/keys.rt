@@ -3,6 +3,7 @@ ghost use Rattle.std.specs.Prelude.{◌≡◌, ◌≢◌, ℕ, Some, None, IfOk,
 ghost use Rattle.ordered_lists.specs.Canon.{Exact};
 ghost use Rattle.row_table.specs.Tables.{entry_in, key_in, value_in, hashed, IsKeyTable};
 
+use crate::slack::{trim_numbers, trim_places};
 use slab::Slab;
 use std::alloc::{AllocError, Global};
 use std::collections::{BTreeMap, HashMap};
@@ -10,7 +11,7 @@ use std::hash::{DefaultHasher, Hash, Hasher};
 
 // SipHash-1-3, since whoever sends events chooses the keys.
 #[tactic(auto, unfolding(crate::specs::Tables::hashed))]
-fn hash_of<K: Hash>(key: &K) -> u64
+pub(crate) fn hash_of<K: Hash>(key: &K) -> u64
     ensures { result ≡ hashed K.hash_input key.now }
 {
     let mut state = DefaultHasher::new();
@@ -32,6 +33,8 @@ pub struct KeyTable<K: Hash + Ord + Clone, V: Drop> {
     pub(crate) entries: Slab<Entry<K, V>>,
     firsts: HashMap<u64, usize>,
     rest: BTreeMap<K, usize>,
+    // How many were taken since places were given back.
+    taken: usize,
 }
 
 impl<K: Hash + Ord + Clone, V: Drop> KeyTable<K, V> {
@@ -43,6 +46,7 @@ impl<K: Hash + Ord + Clone, V: Drop> KeyTable<K, V> {
             entries: Slab::new(alloc),
             firsts: HashMap::new(alloc),
             rest: BTreeMap::new(alloc),
+            taken: 0,
         }
     }
 
@@ -52,7 +56,17 @@ impl<K: Hash + Ord + Clone, V: Drop> KeyTable<K, V> {
         requires table { IsKeyTable (hashed K.hash_input) K.cmp self.now }
         ensures { MatchOption result ((n : ℕ) → key_in self.now n ≢ Some key.now) (λ n. key_in self.now n ≡ Some key.now) }
     {
-        if let Some(number) = self.firsts.get(&hash_of(key)) {
+        self.find_under(hash_of(key), key)
+    }
+
+    // The number of a key that has this hash.
+    pub(crate) fn find_under(&self, hash: u64, key: &K) -> Option<usize>
+        requires exact { Exact K.cmp }
+        requires hash { hash ≡ hashed K.hash_input key.now }
+        requires table { IsKeyTable (hashed K.hash_input) K.cmp self.now }
+        ensures { MatchOption result ((n : ℕ) → key_in self.now n ≢ Some key.now) (λ n. key_in self.now n ≡ Some key.now) }
+    {
+        if let Some(number) = self.firsts.get(&hash) {
             if let Some(held) = self.entries.get(*number) {
                 if held.key.cmp(key).is_eq() {
                     return Some(*number);
@@ -78,9 +92,26 @@ impl<K: Hash + Ord + Clone, V: Drop> KeyTable<K, V> {
         ensures err { OnErr result ((m : ℕ) → entry_in self.new m ≡ entry_in self.old m) }
         ensures table { IsKeyTable (hashed K.hash_input) K.cmp self.new }
     {
+        let hash = hash_of(&key);
+        self.put_under(hash, key, value)
+    }
+
+    // Puts in a key that has this hash and isn't there.
+    pub(crate) fn put_under(&mut self, hash: u64, key: K, value: V) -> Result<usize, AllocError>
+        requires exact { Exact K.cmp }
+        requires hash { hash ≡ hashed K.hash_input key }
+        requires table { IsKeyTable (hashed K.hash_input) K.cmp self.old }
+        requires clones { (x y : K) → K.is_clone x y → y ≡ x }
+        requires absent { (n : ℕ) → key_in self.old n ≢ Some key }
+        ensures fresh { IfOk result (λ n. key_in self.old n ≡ None) }
+        ensures held { IfOk result (λ n. key_in self.new n ≡ Some key) }
+        ensures value { IfOk result (λ n. value_in self.new n ≡ Some value) }
+        ensures others { IfOk result (λ n. (m : ℕ) → m ≢ n → entry_in self.new m ≡ entry_in self.old m) }
+        ensures err { OnErr result ((m : ℕ) → entry_in self.new m ≡ entry_in self.old m) }
+        ensures table { IsKeyTable (hashed K.hash_input) K.cmp self.new }
+    {
         self.entries.reserve(1)?;
         let number = self.entries.vacant_key();
-        let hash = hash_of(&key);
         match self.firsts.get(&hash) {
             None => {
                 self.firsts.insert(hash, number)?;
@@ -95,7 +126,23 @@ impl<K: Hash + Ord + Clone, V: Drop> KeyTable<K, V> {
     }
 
     /// Takes a key out.
+    #[tactic(auto, using(crate::proofs::Kept::table_trimmed))]
     pub fn take(&mut self, number: usize) -> Option<Entry<K, V>>
+        requires exact { Exact K.cmp }
+        requires table { IsKeyTable (hashed K.hash_input) K.cmp self.old }
+        ensures value { result ≡ entry_in self.old number }
+        ensures gone { key_in self.new number ≡ None }
+        ensures others { (m : ℕ) → m ≢ number → entry_in self.new m ≡ entry_in self.old m }
+        ensures table { IsKeyTable (hashed K.hash_input) K.cmp self.new }
+    {
+        let entry = self.pull(number);
+        trim_places(&mut self.entries, &mut self.taken);
+        trim_numbers(&mut self.firsts);
+        entry
+    }
+
+    // The same with all memory kept.
+    fn pull(&mut self, number: usize) -> Option<Entry<K, V>>
         requires exact { Exact K.cmp }
         requires table { IsKeyTable (hashed K.hash_input) K.cmp self.old }
         ensures value { result ≡ entry_in self.old number }

@@ -3,6 +3,7 @@
 
 mod keys;
 mod rows;
+mod slack;
 mod steps;
 
 pub use keys::{Entry, KeyTable};

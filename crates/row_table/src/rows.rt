@@ -1,12 +1,13 @@
 // Rows under numbers, each with a value at some steps.
-ghost use Rattle.std.specs.Prelude.{◌≡◌, ◌≢◌, ℕ, true, false, Some, None, IfOk, OnOk, OnErr, IsSome, IsOk, MatchOption};
+ghost use Rattle.std.specs.Prelude.{◌≡◌, ◌≢◌, ◌≤◌, ℕ, true, false, Some, None, IfOk, OnOk, OnErr, IsSome, IsOk, MatchOption};
 ghost use Rattle.std.specs.Option.{option_copied};
 ghost use Rattle.slab.specs.Slab as slots;
 ghost use Rattle.ordered_lists.specs.Canon.{Exact};
+ghost use Rattle.row_table.specs.Pairs.{get, IsNext, NoneBehind};
 ghost use Rattle.row_table.specs.Tables.{hashed, key_of};
 ghost use Rattle.row_table.specs.Steps.{value_at, row_under, step_value, same_record, HasValue, IsRowTable};
 
-use crate::keys::{Entry, KeyTable};
+use crate::keys::{Entry, KeyTable, hash_of};
 use crate::steps::StepList;
 use slab::Slab;
 use std::alloc::{AllocError, Global};
@@ -49,6 +50,33 @@ impl<K: Hash + Ord + Clone, V: Copy + Drop> RowTable<K, V> {
         }
     }
 
+    /// A number above those of all rows.
+    pub fn numbers(&self) -> usize
+        ensures { (n : ℕ) → result ≤ n → row_under self.now n ≡ None }
+    {
+        self.table.entries.capacity()
+    }
+
+    /// The steps that have a value at the row under a number, rising, each with it.
+    pub fn steps(&self, number: usize) -> &[(u32, V)]
+        ensures { (s : ℕ) → get result.now s ≡ step_value self.now number s }
+    {
+        match self.table.entries.get(number) {
+            None => &[],
+            Some(entry) => entry.value.as_slice(),
+        }
+    }
+
+    /// Of the steps that have a value at the row under a number the first behind another, or of all.
+    pub fn next_step(&self, number: usize, last: Option<u32>) -> Option<u32>
+        ensures { MatchOption result (NoneBehind (step_value self.now number) last) (IsNext (step_value self.now number) last) }
+    {
+        match self.table.entries.get(number) {
+            None => None,
+            Some(entry) => entry.value.next(last),
+        }
+    }
+
     /// The value of a step at the row under a number.
     pub fn at(&self, number: usize, step: u32) -> Option<V>
         ensures { result ≡ step_value self.now number step }
@@ -83,11 +111,12 @@ impl<K: Hash + Ord + Clone, V: Copy + Drop> RowTable<K, V> {
         ensures err { OnErr result ((m : ℕ) → same_record self.old self.new m) }
         ensures table { IsRowTable (hashed K.hash_input) K.cmp self.new }
     {
-        match self.table.find(&row) {
+        let hash = hash_of(&row);
+        match self.table.find_under(hash, &row) {
             Some(number) => Ok(number),
             None => {
                 let steps = StepList::new(self.alloc);
-                self.table.put(row, steps)
+                self.table.put_under(hash, row, steps)
             }
         }
     }

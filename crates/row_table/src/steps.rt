@@ -1,6 +1,6 @@
 // The steps of a record, rising, each with a value.
-ghost use Rattle.std.specs.Prelude.{◌≡◌, ◌≢◌, ℕ, true, false, [], None, IsSome, IsOk, IfOk, IfErr, OnOk, OnErr};
-ghost use Rattle.row_table.specs.Pairs.{get, IsStrictlySorted, IsAt, IsGapFor, SetsOnly, Drops};
+ghost use Rattle.std.specs.Prelude.{◌≡◌, ◌≢◌, ℕ, true, false, [], None, IsSome, IsOk, IfOk, IfErr, OnOk, OnErr, MatchOption};
+ghost use Rattle.row_table.specs.Pairs.{get, IsStrictlySorted, IsAt, IsGapFor, SetsOnly, Drops, IsNext, NoneBehind, IsPlaceBehind};
 
 use std::alloc::{AllocError, Global};
 use std::marker::Model;
@@ -41,12 +41,43 @@ impl<V: Copy> StepList<V> {
         self.pairs.is_empty()
     }
 
+    pub fn as_slice(&self) -> &[(u32, V)]
+        ensures { result.now ≡ self.now }
+    {
+        self.pairs.as_slice()
+    }
+
     pub fn get(&self, step: u32) -> Option<V>
         ensures { result ≡ get self.now step }
     {
         match self.search(step) {
             Ok(at) => Some(self.pairs[at].1),
             Err(_) => None,
+        }
+    }
+
+    /// The first step behind another, or of all.
+    pub fn next(&self, last: Option<u32>) -> Option<u32>
+        ensures { MatchOption result (NoneBehind (get self.now) last) (IsNext (get self.now) last) }
+    {
+        let at = self.place_behind(last);
+        if at < self.pairs.len() {
+            return Some(self.pairs[at].0);
+        }
+        None
+    }
+
+    // From where on the steps stand that come behind another.
+    fn place_behind(&self, last: Option<u32>) -> usize
+        ensures { IsPlaceBehind self.now last result }
+    {
+        let _rising = &self.pairs;
+        match last {
+            None => 0,
+            Some(step) => match self.search(step) {
+                Ok(at) => at + 1,
+                Err(at) => at,
+            },
         }
     }
 

@@ -2,7 +2,7 @@ use Rattle.std.proofs.Common.{rules, ap, sym, ◌∙◌}
 use Rattle.std.specs.Option.{option_map}
 use Rattle.row_table.proofs.Taken.{table_less_rest, table_less_first}
 use Rattle.row_table.specs.Tables.{hashed}
-use Rattle.row_table.proofs.keys.KeyTable.take.Goals as goal
+use Rattle.row_table.proofs.keys.KeyTable.pull.Goals as goal
 
 pub returns-in-None-get-clause-table : goal.returns-in-None-get-clause-table
 returns-in-None-get-clause-table g c =
