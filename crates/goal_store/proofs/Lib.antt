@@ -9,3 +9,4 @@ pub mod Walking
 pub mod Standing
 pub mod Building
 pub mod Opening
+pub mod Swept

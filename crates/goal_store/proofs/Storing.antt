@@ -1,17 +1,19 @@
 -- From the parts of a store to the store.
-use Rattle.std.proofs.Common.{ℕ, zero, suc, ◌≡◌, ◌+◌, List, length, Option, None, Result, Ok, Err, refl, ap, sym, ◌∙◌}
+use Rattle.std.proofs.Common.{ℕ, zero, suc, ◌≡◌, ◌+◌, List, length, Option, Some, None, Result, Ok, Err, refl, ap, sym, ◌∙◌}
 use Rattle.std.specs.Result.{OnOk, OnErr}
 use Rattle.std.proofs.lemmas.Result.{on_ok_weaker}
 use Rattle.ev_bind.specs.Rows.{row_cmp, row_writes, exact_rows}
 use Rattle.ev_bind.specs.declared.rows.Row.{Row}
+use Rattle.row_table.specs.Pairs.{get}
+use Rattle.row_table.specs.Steps.{step_value}
 use Rattle.row_table.specs.Tables.{hashed}
 use Rattle.rule_ast.specs.declared.plans.Index.{Index}
 use Rattle.std.proofs.Common.{nat_lt, true}
 use Rattle.goal_store.specs.Fits.{IsPlaced}
-use Rattle.goal_store.specs.Goals.{mark_at, goals_of, sum_below, Marks, SameMarks, SameRows, KeptRows, Settled}
+use Rattle.goal_store.specs.Goals.{mark_at, row_at, goals_of, sum_below, Marks, SameMarks, SameRows, KeptRows, Settled}
 use Rattle.goal_store.specs.Good.{OneMark, SameValues, SettledRows, count_below}
 use Rattle.goal_store.specs.Steps.{SameSteps}
-use Rattle.goal_store.specs.Values.{value_in, value_kept}
+use Rattle.goal_store.specs.Values.{value_in, value_under, value_kept}
 use Rattle.goal_store.specs.declared.kept.GoalStore.{GoalStore}
 use Rattle.goal_store.specs.declared.marks.Mark.{Mark}
 use Rattle.goal_store.specs.declared.steps.StepPlaces.{StepPlaces}
@@ -54,6 +56,13 @@ module _ (old new : GoalStore) where
   pub settled_marks : SettledRows old.goals.held.rows new.goals.held.rows → Settled old new
   unfolding mark_at
   settled_marks h = h
+
+-- under its number a row has the marks that steps have at it
+pub marks_under : (g : GoalStore) (n : ℕ) (l : List (ℕ × Mark)) → ((s : ℕ) → get l s ≡ step_value g.goals.held.rows n s)
+    → (r : Row) → row_at g n ≡ Some r → (s : ℕ) → get l s ≡ mark_at g s r
+unfolding mark_at
+marks_under g n l values r e s =
+    values s ∙ sym (value_under exact_rows (hashed row_writes) g.goals.held.rows g.good.held.table n s r e)
 
 -- the number of goals
 pub count_is : (g : GoalStore) (n : ℕ) → count_below (λ m. true) g.goals.held.rows n ≡ sum_below (λ s. length (goals_of g s)) n

@@ -17,7 +17,7 @@ use Rattle.row_table.specs.Steps.{row_under}
 use Rattle.row_table.specs.Tables.{hashed}
 use Rattle.rule_ast.specs.PlainPlans.{PlainIndex, plain_index}
 use Rattle.goal_store.specs.Marks.{sees, seen_as, settled}
-use Rattle.goal_store.specs.Values.{value_in, rows_that, has_rows, rows_rise, tells, tied, untied}
+use Rattle.goal_store.specs.Values.{value_in, value_nowhere, rows_that, has_rows, rows_rise, tells, tied, untied}
 use Rattle.goal_store.specs.declared.cursors.Cursor.{Cursor}
 use Rattle.goal_store.specs.declared.kept.GoalStore.{GoalStore}
 use Rattle.goal_store.specs.declared.marks.Mark.{Mark}
@@ -114,6 +114,11 @@ pub seen_same : (a b : GoalStore) (s t : ℕ) (v w : When) → ((r : Row) → se
     → seen a s v ≡ seen b t w
 seen_same a b s t v w same = canon_one exact_rows (seen a s v) (seen b t w) (seen_rises a s v) (seen_rises b t w)
     (λ r. has_seen a s v r ∙ same r ∙ sym (has_seen b t w r))
+
+-- a row that has no number is a row of no step
+pub unnumbered : (g : GoalStore) (s : ℕ) (r : Row) → ((n : ℕ) → row_at g n ≢ Some r) → mark_at g s r ≡ None
+unfolding mark_at
+unnumbered g s r none = value_nowhere exact_rows (hashed row_writes) g.goals.held.rows s r none
 
 module _ (old new : GoalStore) (step : ℕ) (row : Row) where
   pub seen_others : (m : Option Mark) → Marks old new step row m → (s : ℕ) → s ≢ step → (w : When) → seen new s w ≡ seen old s w

@@ -11,3 +11,4 @@ pub mod Goals
 pub mod Walked
 pub mod Few
 pub mod Walks
+pub mod Sweeping

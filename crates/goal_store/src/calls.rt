@@ -1,8 +1,9 @@
 // The calls of the store.
-ghost use Rattle.std.specs.Prelude.{◌≡◌, ◌≢◌, ℕ, ◌<◌, length, map, true, false, [], ◌∷◌, Some, None, IfOk, OnOk, OnErr, IfSome, IfNone, IsSome, MatchOption, if◌then◌else◌, slice_get};
+ghost use Rattle.std.specs.Prelude.{◌≡◌, ◌≢◌, ℕ, ◌<◌, ◌≤◌, length, map, true, false, [], ◌∷◌, Some, None, IfOk, OnOk, OnErr, IfSome, IfNone, IsSome, MatchOption, if◌then◌else◌, slice_get};
 ghost use Rattle.std.specs.Option.{option_copied};
 ghost use Rattle.rule_ast.specs.PlainPlans.{PlainIndex, plain_index};
 ghost use Rattle.row_changes.specs.Partners.{listed};
+ghost use Rattle.row_table.specs.Pairs.{get};
 ghost use Rattle.goal_store.specs.Marks.{seen_as, was_old};
 ghost use Rattle.goal_store.specs.Goals.{mark_at, seen, row_at, steps_of, indexes_of, number_of, rest, SamePlan, Marks, SameMarks, SameRows, KeptRows, Settled};
 ghost use Rattle.goal_store.specs.Walked.{IsWalk};
@@ -99,6 +100,21 @@ impl GoalStore {
         ensures { option_copied result ≡ row_at self.now number }
     {
         self.goals.held.rows.row(number)
+    }
+
+    /// A number above those of all rows.
+    pub fn numbers(&self) -> usize
+        ensures { (n : ℕ) → result ≤ n → row_at self.now n ≡ None }
+    {
+        self.goals.held.rows.numbers()
+    }
+
+    /// The steps that have the row under a number, rising, each with its mark.
+    #[tactic(auto, using(crate::proofs::Storing::marks_under))]
+    pub fn marks_at(&self, number: usize) -> &[(StepId, Mark)]
+        ensures { (row : Row) → row_at self.now number ≡ Some row → (s : ℕ) → get result.now s ≡ mark_at self.now s row }
+    {
+        self.goals.held.rows.steps(number)
     }
 
     /// The number of a row, which stays good until goals go or it is released.

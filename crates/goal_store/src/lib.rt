@@ -11,6 +11,7 @@ mod kept;
 mod marks;
 mod places;
 mod steps;
+mod sweeping;
 mod walks;
 
 pub use cursors::Cursor;
