@@ -126,13 +126,21 @@ module _ {K : Type 0} {R : K → K → Ordering} (o : Exact R) where
           was e true t = sym (ap (nat_lt 0) (here e t).1 ∙ below_some (f k) some)
           was e false t = ap (nat_lt 0) (there e t)
 
-      -- one that had some has some
-      pub counted_kept : 0 < f k → 0 < v → Counted n g
-      counted_kept some more = counted_same (λ e. at e (is_eq (R k e)) refl)
+      -- one has some where it had some
+      pub counted_still : nat_lt 0 v ≡ nat_lt 0 (f k) → Counted n g
+      counted_still still = counted_same (λ e. at e (is_eq (R k e)) refl)
         where
           at : (e : K) (b : Bool) → is_eq (R k e) ≡ b → nat_lt 0 (g e) ≡ nat_lt 0 (f e)
-          at e true t = ap (nat_lt 0) (here e t).0 ∙ below_some v more ∙ sym (ap (nat_lt 0) (here e t).1 ∙ below_some (f k) some)
+          at e true t = ap (nat_lt 0) (here e t).0 ∙ still ∙ sym (ap (nat_lt 0) (here e t).1)
           at e false t = ap (nat_lt 0) (there e t)
+
+      -- one that had some has some
+      pub counted_kept : 0 < f k → 0 < v → Counted n g
+      counted_kept some more = counted_still (below_some v more ∙ sym (below_some (f k) some))
+
+      -- one that had none has none
+      pub counted_absent : f k ≡ 0 → v ≡ 0 → Counted n g
+      counted_absent none still = counted_still (ap (nat_lt 0) (still ∙ sym none))
 
   -- where no element has a number, there are none
   pub counted_none : (f : K → ℕ) → ((e : K) → f e ≡ 0) → Counted 0 f

@@ -18,7 +18,7 @@ use Rattle.event_model.specs.declared.events.Event.{Event}
 use Rattle.event_model.specs.Events.{time_of}
 use Rattle.event_model.specs.EventOrder.{event_cmp, exact_events}
 use Rattle.event_model.specs.Presence.{occurrences}
-use Rattle.support_table.specs.Times.{Times, number_at, number_in, IsTimed, IsCounted, Puts}
+use Rattle.support_table.specs.Times.{Times, fewer, number_at, number_in, IsTimed, IsCounted, Puts}
 use Rattle.support_table.proofs.CopyLaws.{PutsNumber, ties, ties_back, counted_cut, has-keys}
 
 pub eqb_itself : (n : ℕ) → (n == n) ≡ true
@@ -83,13 +83,41 @@ module _ (k : Event) (v : ℕ) (f g : Event → ℕ) (puts : PutsNumber exact_ev
           let now : g e ≡ f e = puts e ∙ ap (λ b. cond b v (f e)) t in
           omega (arith, none, now)
 
--- where there is no copy, none goes
-pub none_less : (k : Event) (f : Event → ℕ) → f k ≡ 0 → (e : Event) → f e ≡ f e - occurrences e (k ∷ [])
-none_less k f is = one_less k 0 f f (λ e. at e (is_eq (event_cmp k e)) refl) (omega (arith, is))
+-- what is kept of a number where one goes
+pub fewer_number : (n : ℕ) → unwrap_or (fewer n) 0 ≡ n - 1
+fewer_number n = at (nat_lt 1 n) refl
   where
-    at : (e : Event) (b : Bool) → is_eq (event_cmp k e) ≡ b → f e ≡ cond b 0 (f e)
-    at e true t = ap f (sym (ties exact_events k e t)) ∙ is
-    at e false t = refl
+    at : (b : Bool) → nat_lt 1 n ≡ b → unwrap_or (cond b (Some (n - 1)) None) 0 ≡ n - 1
+    at true e = refl
+    at false e = let least : n ≤ 1 = grind (arith, nat_tests) in omega (arith, least)
+
+pub fewer_some : (n : ℕ) → IfSome (fewer n) (λ v. 0 < v)
+fewer_some n = at (nat_lt 1 n) refl
+  where
+    at : (b : Bool) → nat_lt 1 n ≡ b → IfSome (cond b (Some (n - 1)) None) (λ v. 0 < v)
+    at true e = let more : 1 < n = grind (arith, nat_tests) in omega (arith, more)
+    at false e = tt
+
+-- an event that isn't there isn't there afterwards
+pub none_kept : (m : BTreeMap Event ℕ) (k : Event) → get event_cmp m k ≡ None
+    → (e : Event) → get event_cmp m e ≡ cond (is_eq (event_cmp k e)) None (get event_cmp m e)
+none_kept m k none e = at (is_eq (event_cmp k e)) refl
+  where
+    at : (b : Bool) → is_eq (event_cmp k e) ≡ b → get event_cmp m e ≡ cond b None (get event_cmp m e)
+    at true t = ap (get event_cmp m) (sym (ties exact_events k e t)) ∙ none
+    at false t = refl
+
+-- nor is one of a time that isn't there
+pub nowhere_kept : (times : Times) (k : Event) → get nat_cmp times (time_of k) ≡ None
+    → (t : ℕ) (e : Event) → number_at times t e ≡ cond ((time_of k == t) && is_eq (event_cmp k e)) None (number_at times t e)
+nowhere_kept times k none t e = at (time_of k == t) refl (is_eq (event_cmp k e))
+  where
+    at : (a : Bool) → (time_of k == t) ≡ a → (b : Bool) → number_at times t e ≡ cond (a && b) None (number_at times t e)
+    at true g true =
+        let same : t ≡ time_of k = grind (arith, nat_tests) in
+        ap (λ q. option_and_then (λ m. get event_cmp m e) (get nat_cmp times q)) same ∙ ap (option_and_then (λ m. get event_cmp m e)) none
+    at true g false = refl
+    at false g b = refl
 
 -- ---- all events of a time
 

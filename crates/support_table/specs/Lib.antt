@@ -1,3 +1,4 @@
 pub mod Supports
 pub mod Times
 pub mod Copies
+pub mod Keeping

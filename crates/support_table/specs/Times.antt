@@ -1,7 +1,7 @@
 -- Numbers of events that stand under their times.
 --     number_in times e       the number of an event, 0 where none is kept
 --     Puts old new k n        one event has this number, and all others have what they had
-use Rattle.std.specs.Prelude.{ℕ, ◌≡◌, ◌<◌, ◌&&◌, ◌==◌, cond, nat_lt, unwrap_or, Option, List, length}
+use Rattle.std.specs.Prelude.{ℕ, ◌≡◌, ◌<◌, ◌-◌, ◌&&◌, ◌==◌, cond, nat_lt, unwrap_or, Option, Some, None, List, length}
 use Rattle.std.specs.Option.{option_and_then, IfSome}
 use Rattle.std.specs.Ordering.{nat_cmp, is_eq}
 use Rattle.std.specs.BTreeMap.{BTreeMap, get}
@@ -21,6 +21,10 @@ number_at times t e = option_and_then (λ m. get event_cmp m e) (get nat_cmp tim
 -- the number of an event under its own time, 0 where none is kept
 abbrev pub number_in : Times → Event → ℕ
 number_in times e = unwrap_or (number_at times (time_of e) e) 0
+
+-- the number that is kept where one goes; none where the last goes
+abbrev pub fewer : ℕ → Option ℕ
+fewer n = cond (nat_lt 1 n) (Some (n - 1)) None
 
 -- an event stands under its own time, and with a number above 0
 abbrev pub IsTimed : Times → Type 0

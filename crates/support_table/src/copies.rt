@@ -3,7 +3,7 @@ ghost use Rattle.std.proofs.Props.{props};
 ghost use Rattle.support_table.specs.Times.{number_in, IsTimed, IsCounted};
 
 use crate::supports::Change;
-use crate::times::{first_time, number_of, put_first, remove, set};
+use crate::times::{first_time, lower, number_of, raise};
 use event_model::Event;
 use std::alloc::{AllocError, Global};
 use std::collections::BTreeMap;
@@ -66,22 +66,6 @@ impl Copies {
         self.held
     }
 
-    // The first copy of an event.
-    #[tactic(auto, unfolding(crate::specs::Copies::copies_of))]
-    fn add_first(&mut self, event: &Event) -> Result<Change, AllocError>
-        requires none { copies_of self.old event.now ≡ 0 }
-        ensures copies { (e : Event) → OnOk result (copies_of self.new e ≡ copies_of self.old e + occurrences e (event.now ∷ [])) }
-        ensures change { IfOk result (λ c. c ≡ Change.Appeared) }
-        ensures err { (e : Event) → OnErr result (copies_of self.new e ≡ copies_of self.old e) }
-    {
-        let Some(held) = self.held.checked_add(1) else {
-            return Err(AllocError);
-        };
-        put_first(self.alloc, &mut self.times, event)?;
-        self.held = held;
-        Ok(Change::Appeared)
-    }
-
     /// A copy of an event comes.
     #[tactic(auto, unfolding(crate::specs::Copies::copies_of))]
     pub fn add(&mut self, event: &Event) -> Result<Change, AllocError>
@@ -90,22 +74,15 @@ impl Copies {
         ensures change { IfOk result (λ c. c ≡ (if copies_of self.old event.now == 0 then Change.Appeared else Change.Same)) }
         ensures err { (e : Event) → OnErr result (copies_of self.new e ≡ copies_of self.old e) }
     {
-        let number = self.number(event);
-        if number == 0 {
-            return self.add_first(event);
+        let Some(held) = self.held.checked_add(1) else {
+            return Err(AllocError);
+        };
+        let before = raise(self.alloc, &mut self.times, event)?;
+        if before > 0 {
+            return Ok(Change::Same);
         }
-        set(&mut self.times, event, number + 1);
-        Ok(Change::Same)
-    }
-
-    // The last copy of an event goes.
-    #[tactic(auto, unfolding(crate::specs::Copies::copies_of))]
-    fn take_last(&mut self, event: &Event)
-        requires { copies_of self.old event.now ≡ 1 }
-        ensures { (e : Event) → copies_of self.new e ≡ copies_of self.old e - occurrences e (event.now ∷ []) }
-    {
-        remove(&mut self.times, event);
-        self.held = self.held.saturating_sub(1);
+        self.held = held;
+        Ok(Change::Appeared)
     }
 
     /// A copy of an event goes; `None` where there is none, and nothing changes.
@@ -115,16 +92,15 @@ impl Copies {
         ensures change { MatchOption result (copies_of self.old event.now ≡ 0) (λ c. (0 < copies_of self.old event.now)
             × (c ≡ (if copies_of self.old event.now == 1 then Change.Vanished else Change.Same))) }
     {
-        let number = self.number(event);
-        if number == 0 {
+        let before = lower(&mut self.times, event);
+        if before == 0 {
             return None;
         }
-        if number == 1 {
-            self.take_last(event);
-            return Some(Change::Vanished);
+        if before > 1 {
+            return Some(Change::Same);
         }
-        set(&mut self.times, event, number - 1);
-        Some(Change::Same)
+        self.held = self.held.saturating_sub(1);
+        Some(Change::Vanished)
     }
 
     // The events of the earliest time go, where it is below the bound; answers whether there were any.

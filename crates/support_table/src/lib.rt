@@ -2,6 +2,7 @@
 #![tactic(auto)]
 
 mod copies;
+mod keeping;
 mod kept;
 mod supports;
 mod times;

@@ -143,6 +143,14 @@ impl Supports {
         Ok(())
     }
 
+    /// A step has the row under a number no more. It keeps its number until `release`.
+    pub fn forget_at(&mut self, number: usize, step: StepId)
+        ensures counts { (row : Row) → row_at self.old number ≡ Some row → Counts self.old self.new step row 0 }
+        ensures rows { (m : ℕ) → row_at self.new m ≡ row_at self.old m }
+    {
+        self.rows.remove(number, step);
+    }
+
     /// The number is free where no step has its row.
     #[tactic(auto, using(crate::specs::Supports::fewer_records, ev_bind::specs::Rows::exact_rows))]
     pub fn release(&mut self, number: usize)
@@ -213,7 +221,7 @@ impl Supports {
         match self.rows.find(row) {
             None => {}
             Some(number) => {
-                self.rows.remove(number, step);
+                self.forget_at(number, step);
                 self.release(number);
             }
         }
