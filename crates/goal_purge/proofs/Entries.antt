@@ -17,6 +17,22 @@ use Rattle.goal_purge.specs.Expiring.{due, expires_at, expiry, expiry_cmp}
 use Rattle.goal_purge.specs.declared.expiries.Expiries.{Expiries}
 use Rattle.goal_purge.specs.declared.expiries.Expiry.{Expiry}
 
+-- ---- truths in another order
+
+pub last_first : (a b k : Bool) → (a && (b && k)) ≡ (b && (k && a))
+last_first true true true = refl
+last_first true true false = refl
+last_first true false k = refl
+last_first false true true = refl
+last_first false true false = refl
+last_first false false k = refl
+
+either : (a b : Bool) → (a && b) ≡ (b && a)
+either true true = refl
+either true false = refl
+either false true = refl
+either false false = refl
+
 -- ---- whether two entries tie
 
 is_eq_then : (o p : Ordering) → is_eq (ordering_then o p) ≡ (is_eq o && is_eq p)
@@ -37,13 +53,14 @@ numbers_back m n = grind (arith, nat_tests)
 
 -- step s has the row r under the bound d
 abbrev entry : ℕ → ℕ → Row → Expiry
-entry d s r = record { bound = d; step = s; row = r }
+entry d s r = record { bound = d; row = r; step = s }
 
 ties : (x : Expiry) (d s : ℕ) (r : Row)
     → is_eq (expiry_cmp x (entry d s r)) ≡ (d == x.bound && (s == x.step && is_eq (row_cmp r x.row)))
 ties x d s r =
-    is_eq_then (nat_cmp x.bound d) (ordering_then (nat_cmp x.step s) (row_cmp x.row r))
-    ∙ ap (λ t. is_eq (nat_cmp x.bound d) && t) (is_eq_then (nat_cmp x.step s) (row_cmp x.row r))
+    is_eq_then (nat_cmp x.bound d) (ordering_then (row_cmp x.row r) (nat_cmp x.step s))
+    ∙ ap (λ t. is_eq (nat_cmp x.bound d) && t) (is_eq_then (row_cmp x.row r) (nat_cmp x.step s))
+    ∙ ap (λ t. is_eq (nat_cmp x.bound d) && t) (either (is_eq (row_cmp x.row r)) (is_eq (nat_cmp x.step s)))
     ∙ (λ i. numbers_back x.bound d i && (numbers_back x.step s i && rows_back x.row r i))
 
 -- ---- an entry comes or goes
@@ -61,24 +78,16 @@ ties_expiring : (x : Expiry) (cap : Option ℕ) (reach : Reach) (span : PlainSpa
     → (d s : ℕ) (r : Row) → is_eq (expiry_cmp x (entry d s r))
     ≡ (s == x.step && (is_eq (row_cmp r x.row) && expires_at cap reach span d))
 ties_expiring x cap reach span e d s r =
-    ties x d s r ∙ swap (d == x.bound) (s == x.step) (is_eq (row_cmp r x.row))
+    ties x d s r ∙ last_first (d == x.bound) (s == x.step) (is_eq (row_cmp r x.row))
     ∙ ap (λ t. s == x.step && (is_eq (row_cmp r x.row) && t)) (back d x.bound ∙ sym (ap (λ o. option_map_or (λ y. y == d) o false) e))
   where
-    swap : (a b k : Bool) → (a && (b && k)) ≡ (b && (k && a))
-    swap true true true = refl
-    swap true true false = refl
-    swap true false k = refl
-    swap false true true = refl
-    swap false true false = refl
-    swap false false k = refl
-
     back : (m n : ℕ) → (m == n) ≡ (n == m)
     back m n = grind (arith, nat_tests)
 
 module _ (old new : Expiries) (cap : Option ℕ) (reach : Reach) (span : PlainSpan) (bound step : ℕ) (row' row : Row)
     (same : row' ≡ row) (e : Some bound ≡ expiry cap reach span) where
   abbrev here : Expiry
-  here = record { bound = bound; step = step; row = row' }
+  here = record { bound = bound; row = row'; step = step }
 
   pub put_in : Updates expiry_cmp old.entries new.entries here true → (d s : ℕ) (r : Row)
       → due new d s r ≡ ((s == step && (is_eq (row_cmp r row) && expires_at cap reach span d)) || due old d s r)
@@ -128,7 +137,7 @@ first_bound : (x y : Expiry) → is_gt (expiry_cmp x y) ≡ false → x.bound �
 first_bound x y h = at (nat_cmp x.bound y.bound) refl h
   where
     at : (o : Ordering) → nat_cmp x.bound y.bound ≡ o
-        → is_gt (ordering_then o (ordering_then (nat_cmp x.step y.step) (row_cmp x.row y.row))) ≡ false → x.bound ≤ y.bound
+        → is_gt (ordering_then o (ordering_then (row_cmp x.row y.row) (nat_cmp x.step y.step))) ≡ false → x.bound ≤ y.bound
     at Less e h = grind (arith, nat_tests)
     at Equal e h = grind (arith, nat_tests)
     at Greater e h = absurd (true≢false h)

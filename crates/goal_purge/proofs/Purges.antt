@@ -20,6 +20,7 @@ use Rattle.goal_purge.specs.Expiring.{due, expires_at, has_goal, without_row, Fo
 use Rattle.goal_purge.specs.Following.{follows_same, follows_without, goes_at, gone_at, kept_at, one_expiry}
 use Rattle.goal_purge.specs.Purging.{has_old, NoneDue, Purges}
 use Rattle.goal_purge.specs.declared.expiries.Expiries.{Expiries}
+use Rattle.goal_purge.proofs.Entries.{last_first}
 
 both : (a b : Bool) → (a && b) ≡ true → (a ≡ true) × (b ≡ true)
 both true b e = (refl, e)
@@ -95,16 +96,8 @@ module _ (caps : PlainCaps) (bound : ℕ) (g : GoalStore) (u : Supports) where
       turned : (c s : ℕ) (r : Row) → (c == d && (s == step && is_eq (row_cmp r row)))
           ≡ (s == step && (is_eq (row_cmp r row) && expires_at (caps.cap step) (caps.reach step) row.span c))
       turned c s r =
-          swap (c == d) (s == step) (is_eq (row_cmp r row))
+          last_first (c == d) (s == step) (is_eq (row_cmp r row))
           ∙ ap (λ t. s == step && (is_eq (row_cmp r row) && t)) (sym (one_expiry (caps.cap step) (caps.reach step) row.span d c held.1))
-        where
-          swap : (a b k : Bool) → (a && (b && k)) ≡ (b && (k && a))
-          swap true true true = refl
-          swap true true false = refl
-          swap true false k = refl
-          swap false true true = refl
-          swap false true false = refl
-          swap false false k = refl
 
       stands : (s : ℕ) (r : Row) → Stands (keeps caps bound s r) (mark_at g s r) (mark_at goals' s r) (count_of u s r) (count_of supports' s r)
       stands s r = at (s == step) refl (is_eq (row_cmp r row)) refl

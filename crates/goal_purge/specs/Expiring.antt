@@ -37,13 +37,13 @@ expiry cap reach s = if under cap (s.end - s.start) then after reach s else Some
 abbrev pub expires_at : Option ℕ → Reach → PlainSpan → ℕ → Bool
 expires_at cap reach s d = option_map_or (λ x. x == d) (expiry cap reach s) false
 
--- by bound, then by step, then as rows are in order
+-- by bound, then as rows are in order, then by step
 abbrev pub expiry_cmp : Expiry → Expiry → Ordering
-expiry_cmp a b = ordering_then (nat_cmp a.bound b.bound) (ordering_then (nat_cmp a.step b.step) (row_cmp a.row b.row))
+expiry_cmp a b = ordering_then (nat_cmp a.bound b.bound) (ordering_then (row_cmp a.row b.row) (nat_cmp a.step b.step))
 
 -- step s has the row r there, under the bound d
 unfoldable pub due : Expiries → ℕ → ℕ → Row → Bool
-due e d s r = has expiry_cmp (record { bound = d; step = s; row = r }) e.entries.keys
+due e d s r = has expiry_cmp (record { bound = d; row = r; step = s }) e.entries.keys
 
 -- how many rows of steps stand there
 abbrev pub entry_count : Expiries → ℕ

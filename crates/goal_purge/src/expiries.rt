@@ -13,12 +13,12 @@ use rule_ast::StepId;
 use std::alloc::{AllocError, Global};
 use std::collections::BTreeSet;
 
-/// A row of a step, under the first bound at which it isn't kept.
+/// A row of a step, under the first bound at which it isn't kept. Those of one row and bound stand one after the other.
 #[derive(Drop, PartialEq, Eq, PartialOrd, Ord)]
 pub(crate) struct Expiry {
     pub(crate) bound: u64,
-    pub(crate) step: StepId,
     pub(crate) row: Row,
+    pub(crate) step: StepId,
 }
 
 /// The rows of the steps in the order in which they go. A row that no bound of 64 bits drops isn't among them.
@@ -87,7 +87,7 @@ impl Expiries {
             return Ok(());
         };
         let row = row.share()?;
-        self.entries.insert(Expiry { bound, step, row })?;
+        self.entries.insert(Expiry { bound, row, step })?;
         Ok(())
     }
 
@@ -107,7 +107,7 @@ impl Expiries {
             return Ok(());
         };
         let row = row.share()?;
-        self.entries.remove(&Expiry { bound, step, row });
+        self.entries.remove(&Expiry { bound, row, step });
         Ok(())
     }
 

@@ -1,23 +1,63 @@
 // The rows that aren't kept at a bound go.
 ghost use Rattle.std.specs.Prelude.{◌≡◌, ◌<◌, ◌&&◌, ℕ, true, false, not, Some, None, if◌then◌else◌};
 ghost use Rattle.ev_bind.specs.declared.rows.Row.{Row};
-ghost use Rattle.support_table.specs.Supports.{count_of};
+ghost use Rattle.support_table.specs.Supports.{count_of, Counts};
 ghost use Rattle.support_table.specs.declared.kept.Supports.{Supports};
-ghost use Rattle.goal_store.specs.Goals.{mark_at, AllOld, SamePlan};
+ghost use Rattle.goal_store.specs.Goals.{mark_at, AllOld, Marks, SamePlan};
+ghost use Rattle.goal_store.specs.Marks.{was_old};
 ghost use Rattle.goal_store.specs.declared.kept.GoalStore.{GoalStore};
 ghost use Rattle.change_meaning.specs.Caps.{PlainCaps, keeps};
 ghost use Rattle.goal_purge.specs.Expiring.{due, entry_count, has_goal, Follows};
 ghost use Rattle.goal_purge.specs.Purging.{Purges, NoneDue};
 
 use crate::expiries::Expiries;
-use goal_store::GoalStore;
+use ev_bind::Row;
+use goal_store::{GoalStore, Mark};
+use rule_ast::StepId;
 use support_table::Supports;
+
+// The numbers of the row that went last, which the next one often has too.
+#[derive(Clone, Copy)]
+struct Last {
+    goal: usize,
+    support: usize,
+}
+
+// The goal of a step is dying from now on, where it is old; answers whether it was. The last number is tried first.
+fn drop_goal(goals: &mut GoalStore, last: &mut Last, step: StepId, row: &Row) -> bool
+    ensures was { result ≡ was_old (mark_at goals.old step row.now) }
+    ensures dropped { result ≡ true → Marks goals.old goals.new step row.now (Some Mark.Dying) }
+    ensures plan { SamePlan goals.old goals.new }
+{
+    match goals.near(last.goal, row) {
+        None => false,
+        Some(number) => {
+            last.goal = number;
+            goals.drop_at(number, step)
+        }
+    }
+}
+
+// A step has a row no more. The last number is tried first.
+fn forget(supports: &mut Supports, last: &mut Last, step: StepId, row: &Row)
+    ensures { Counts supports.old supports.new step row.now 0 }
+{
+    match supports.near(last.support, row) {
+        None => {}
+        Some(number) => {
+            last.support = number;
+            supports.forget_at(number, step);
+            supports.release(number);
+        }
+    }
+}
 
 // The first row goes, where it isn't kept at the bound: its goal is dying, and it has no support. Answers whether there was one.
 fn drop_first(
     goals: &mut GoalStore,
     supports: &mut Supports,
     expiries: &mut Expiries,
+    last: &mut Last,
     bound: u64,
 ) -> bool
     ensures purges { (caps : PlainCaps) (g : GoalStore) (u : Supports)
@@ -29,8 +69,8 @@ fn drop_first(
     match expiries.pop(bound) {
         None => false,
         Some(expiry) => {
-            goals.drop_goal(expiry.step, &expiry.row);
-            supports.forget(expiry.step, &expiry.row);
+            drop_goal(goals, last, expiry.step, &expiry.row);
+            forget(supports, last, expiry.step, &expiry.row);
             true
         }
     }
@@ -46,6 +86,10 @@ pub fn purge(goals: &mut GoalStore, supports: &mut Supports, expiries: &mut Expi
         → Follows caps (has_goal goals.new) expiries.new }
     ensures plan { SamePlan goals.old goals.new }
 {
-    while drop_first(goals, supports, expiries, bound) {}
+    let mut last = Last {
+        goal: 0,
+        support: 0,
+    };
+    while drop_first(goals, supports, expiries, &mut last, bound) {}
     goals.settle();
 }
