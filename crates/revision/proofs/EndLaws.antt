@@ -114,7 +114,15 @@ stays_due old new b E s f d k r =
 pub still_goes : (p : Parts) (made : ℕ) (c : Course) (left : ℕ) → Goes p c left → Goes (record p { made = made }) c left
 still_goes p made c left g = record {
   on = g.on;
-  ready = record { ways = g.ready.ways; stored = g.ready.stored; listed = g.ready.listed; few = g.ready.few; none = g.ready.none };
+  ready = record {
+    ways = g.ready.ways;
+    planned = g.ready.planned;
+    indexed = g.ready.indexed;
+    stored = g.ready.stored;
+    listed = g.ready.listed;
+    few = g.ready.few;
+    none = g.ready.none;
+  };
 }
 
 -- ---- a turn, said of events
@@ -127,7 +135,15 @@ pub goes_on : (old new : Parts) (b : ℕ) (E F : List Event) (left units : ℕ) 
 goes_on old new b E F left units w stays now g spent more made e = record {
   now = now;
   works = works_on (hand old) (hand new) b E F left now (same_steps old new stays) (same_caps old new stays) w g.on (omega (arith, spent));
-  ready = record { ways = g.ready.ways; stored = g.ready.stored; listed = g.ready.listed; few = g.ready.few; none = g.ready.none };
+  ready = record {
+    ways = g.ready.ways;
+    planned = g.ready.planned;
+    indexed = g.ready.indexed;
+    stored = g.ready.stored;
+    listed = g.ready.listed;
+    few = g.ready.few;
+    none = g.ready.none;
+  };
   spent = spent;
   more = more;
   made = e;
@@ -182,6 +198,8 @@ module _ (old m : Parts) (stays : Stays old m) (b : ℕ) (E F : List Event) (lef
             (λ j. seen_settled m.goals goals settles j Before) (λ j. seen_settled m.goals goals settles j After) (λ j r. refl);
         ready = record {
           ways = subst (λ ixs. AreWays ixs (caps_in m.caps) (steps_in m) m.ways.items) (sym plan.1) g.0.ready.ways;
+          planned = g.0.ready.planned;
+          indexed = plan.1 ∙ g.0.ready.indexed;
           stored = plan.0 ∙ g.0.ready.stored;
           listed = g.0.ready.listed;
           few = g.0.ready.few;

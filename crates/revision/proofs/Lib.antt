@@ -14,3 +14,5 @@ pub mod NewLaws
 pub mod IdleLaws
 pub mod FollowLaws
 pub mod SweepLaws
+pub mod AnewLaws
+pub mod ApartLaws

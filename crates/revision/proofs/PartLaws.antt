@@ -114,7 +114,15 @@ module _ (p m : Parts) (e : m ≡ record p { spot = m.spot; pending = m.pending 
   hand_on = subst (λ q. hand q ≡ with_at (hand p) (hand q).at) (sym e) refl
 
   pub ready_on : IsReady p → IsReady m
-  ready_on r = subst IsReady (sym e) (record { ways = r.ways; stored = r.stored; listed = r.listed; few = r.few; none = r.none })
+  ready_on r = subst IsReady (sym e) (record {
+    ways = r.ways;
+    planned = r.planned;
+    indexed = r.indexed;
+    stored = r.stored;
+    listed = r.listed;
+    few = r.few;
+    none = r.none;
+  })
 
   pub there_on : (s : PlainStep) → step_at (steps_in p) p.finished ≡ Some s → step_at (steps_in m) m.finished ≡ Some s
   there_on s h = subst (λ h. step_of h ≡ Some s) (sym hand_on) h
@@ -293,6 +301,8 @@ module _ (p : Parts) (s : PlainStep) (here : step_at (steps_in p) p.finished ≡
   pub ready_then : length changed.items ≡ length p.changed.items → ((t : Sign) (r : Row) → noted spare t r ≡ 0) → IsReady then
   ready_then lists none = record {
     ways = subst (λ ixs. AreWays ixs (caps_in p.caps) (steps_in p) p.ways.items) (sym plan.1) ready.ways;
+    planned = ready.planned;
+    indexed = plan.1 ∙ ready.indexed;
     stored = plan.0 ∙ ready.stored;
     listed = lists ∙ ready.listed;
     few = ready.few;

@@ -66,6 +66,25 @@ module _ (g : GoalStore) (s : ℕ) where
   unfolding goals_of
   goals_rise = rows_rise exact_rows (hashed row_writes) g.goals.held.rows (λ m. true) s
 
+-- ---- a store in which the same rows are seen from before and from after
+
+module _ (goals : GoalStore) (rows : ℕ → List Row) (before : (s : ℕ) → seen goals s Before ≡ rows s)
+    (after : (s : ℕ) → seen goals s After ≡ rows s) where
+  seen_alike : (s : ℕ) (r : Row) → seen_as Before (mark_at goals s r) ≡ seen_as After (mark_at goals s r)
+  seen_alike s r =
+      sym (has_seen goals s Before r)
+      ∙ ap (has row_cmp r) (before s ∙ sym (after s))
+      ∙ has_seen goals s After r
+
+  goal_seen : (s : ℕ) (r : Row) → has_goal goals s r ≡ has row_cmp r (rows s)
+  goal_seen s r = some_alike (mark_at goals s r) (seen_alike s r) ∙ sym (has_seen goals s Before r) ∙ ap (has row_cmp r) (before s)
+
+  -- expiries that follow its goals follow these rows
+  pub rows_due : (caps : PlainCaps) (expiries : Expiries) → Follows caps (has_goal goals) expiries
+      → Follows caps (λ s r. has row_cmp r (rows s)) expiries
+  rows_due caps expiries f d s r =
+      f d s r ∙ ap (λ x. x && expires_at (caps.cap s) (caps.reach s) r.span d) (goal_seen s r)
+
 -- ---- what parts that hold events have
 
 module _ (p : Parts) (b : ℕ) (E : List Event) (h : Holds (hand p) b E) where
@@ -77,26 +96,19 @@ module _ (p : Parts) (b : ℕ) (E : List Event) (h : Holds (hand p) b E) where
   seen_is s Before = h.rows.before s
   seen_is s After = h.rows.after s
 
-  alike : (s : ℕ) (r : Row) → seen_as Before (mark_at p.goals s r) ≡ seen_as After (mark_at p.goals s r)
-  alike s r =
-      sym (has_seen p.goals s Before r)
-      ∙ ap (has row_cmp r) (seen_is s Before ∙ sym (seen_is s After))
-      ∙ has_seen p.goals s After r
-
   -- every goal is old
   pub all_old : AllOld p.goals
-  all_old s r = settled_alike (mark_at p.goals s r) (alike s r)
+  all_old s r = settled_alike (mark_at p.goals s r) (seen_alike p.goals rows h.rows.before h.rows.after s r)
 
   held_is : (s : ℕ) (r : Row) → has_goal p.goals s r ≡ has row_cmp r (rows s)
-  held_is s r = some_alike (mark_at p.goals s r) (alike s r) ∙ sym (has_seen p.goals s Before r) ∙ ap (has row_cmp r) (seen_is s Before)
+  held_is s r = goal_seen p.goals rows h.rows.before h.rows.after s r
 
   pub due_goals : IsDue p b E → Follows (caps_in p.caps) (has_goal p.goals) p.expiries
   due_goals f d s r =
       f d s r ∙ ap (λ x. x && expires_at ((caps_in p.caps).cap s) ((caps_in p.caps).reach s) r.span d) (sym (held_is s r))
 
   pub goals_due : Follows (caps_in p.caps) (has_goal p.goals) p.expiries → IsDue p b E
-  goals_due f d s r =
-      f d s r ∙ ap (λ x. x && expires_at ((caps_in p.caps).cap s) ((caps_in p.caps).reach s) r.span d) (held_is s r)
+  goals_due f = rows_due p.goals rows h.rows.before h.rows.after (caps_in p.caps) p.expiries f
 
   goals_are : (s : ℕ) → goals_of p.goals s ≡ rows s
   goals_are s =
@@ -212,6 +224,8 @@ pub swept_ready : (p : Parts) (goals : GoalStore) (supports : Supports) (expirie
     → IsReady (record p { goals = goals; supports = supports; expiries = expiries })
 swept_ready p goals supports expiries plan ready = record {
   ways = subst (λ ixs. AreWays ixs (caps_in p.caps) (steps_in p) p.ways.items) (sym plan.1) ready.ways;
+  planned = ready.planned;
+  indexed = plan.1 ∙ ready.indexed;
   stored = plan.0 ∙ ready.stored;
   listed = ready.listed;
   few = ready.few;

@@ -12,8 +12,9 @@ use Rattle.event_model.specs.declared.events.Event.{Event}
 use Rattle.event_changes.specs.declared.changes.Sign.{Sign}
 use Rattle.ev_bind.specs.Rows.{row_cmp}
 use Rattle.ev_bind.specs.declared.rows.Row.{Row}
-use Rattle.rule_ast.specs.PlainPlans.{PlainStep, plain_step}
+use Rattle.rule_ast.specs.PlainPlans.{PlainStep, plain_index, plain_step}
 use Rattle.pattern_meaning.specs.Replies.{Change}
+use Rattle.step_meaning.specs.PlanOf.{plan_indexes}
 use Rattle.step_meaning.specs.StepRows.{step_at}
 use Rattle.row_changes.specs.Visits.{Visit, tally}
 use Rattle.change_meaning.specs.Caps.{caps_in, kept_rows}
@@ -56,9 +57,12 @@ hand p = record {
       (noted p.pending);
 }
 
--- its ways are those of its plan, each step has a place in the store and a list of changed rows, and nothing is spare
+-- its ways are those of its plan, whose indexes are those for which its steps ask and those of the store; each step has a place in the
+-- store and a list of changed rows; and nothing is spare
 pub record IsReady (p : Parts) : Type 0 where
   pub ways : AreWays (indexes_of p.goals) (caps_in p.caps) (steps_in p) p.ways.items
+  pub planned : map plain_index p.plan.indexes.items ≡ plan_indexes (steps_in p)
+  pub indexed : indexes_of p.goals ≡ map plain_index p.plan.indexes.items
   pub stored : steps_of p.goals ≡ length p.plan.steps.items
   pub listed : length p.changed.items ≡ length p.plan.steps.items
   pub few : length p.plan.steps.items < 2 ^ 32

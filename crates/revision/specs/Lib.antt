@@ -7,3 +7,4 @@ pub mod Names
 pub mod InHand
 pub mod PartsTurned
 pub mod Working
+pub mod Apart

@@ -1,6 +1,7 @@
 //! The work on changes of events: they go through all steps of a plan, in turns.
 #![tactic(auto)]
 
+mod apart;
 mod applying;
 mod expiring;
 mod idling;
@@ -11,5 +12,6 @@ mod parts;
 mod telling;
 mod work;
 
+pub use apart::WorkParts;
 pub use event_changes::{Changed, Changes, EventChange, Progress, Sign};
 pub use work::Work;

@@ -116,7 +116,7 @@ impl Parts {
         self.events = changes;
         self.finished = 0;
         self.spot = Spot::start();
-        self.pending = Pending::new(self.alloc);
+        self.pending.clear();
         self.made = 0;
     }
 

@@ -1,6 +1,7 @@
 // The evaluator that works by changes.
 ghost use Rattle.revision.specs.InHand.{Stands};
 
+use crate::apart::WorkParts;
 use crate::parts::{Parts, State};
 use event_changes::{Changes, EventChange, Progress};
 use event_model::Detection;
@@ -32,6 +33,7 @@ impl Work {
     ghost use Rattle.revision.specs.Holding.{visits_to, rows_held};
     ghost use Rattle.revision.specs.Working.{steps_of, caps_of, shown_of, plan_of_work, change_of, made_of, held_of, is_working, is_broken};
     ghost use Rattle.revision.specs.Working.{work_left, SamePlanOf, WorkHolds, CanWork, WorkGoes, WorkTurned};
+    ghost use Rattle.revision.specs.Apart.{parts_of, steps_apart, plan_apart, PartsHold};
 
     /// Over no events. The plan has the indexes for which its steps ask.
     pub fn new(alloc: Global, plan: Plan, caps: CapList) -> Result<Work, AllocError>
@@ -46,6 +48,37 @@ impl Work {
         ensures made { IfOk result (λ w. made_of w ≡ 0) }
     {
         let parts = Parts::new(alloc, plan, caps)?;
+        Ok(Work {
+            parts,
+            state: State::Resting,
+        })
+    }
+
+    /// Takes it apart between changes, into all that it keeps.
+    pub fn apart(self) -> WorkParts
+        requires resting { is_working self ≡ false }
+        requires unbroken { is_broken self ≡ false }
+        ensures holds { (b : ℕ) (E : List Event) → WorkHolds self b E → PartsHold result b E }
+        ensures parts { result ≡ parts_of self }
+        ensures plan { plan_apart result ≡ plan_of_work self }
+        ensures caps { caps_in result.caps ≡ caps_of self }
+    {
+        let Work { parts, state: _ } = self;
+        parts.apart()
+    }
+
+    /// From the parts of one, given nothing else.
+    pub fn over(alloc: Global, parts: WorkParts) -> Result<Work, AllocError>
+        requires { (b : ℕ) × (E : List Event) × PartsHold parts b E }
+        ensures holds { (b : ℕ) (E : List Event) → PartsHold parts b E → IfOk result (λ w. WorkHolds w b E) }
+        ensures parts { IfOk result (λ w. parts_of w ≡ parts) }
+        ensures steps { IfOk result (λ w. steps_of w ≡ steps_apart parts) }
+        ensures caps { IfOk result (λ w. caps_of w ≡ caps_in parts.caps) }
+        ensures shown { IfOk result (λ w. shown_of w ≡ parts.plan.shown.items) }
+        ensures change { IfOk result (λ w. change_of w ≡ record { gone = []; come = [] }) }
+        ensures made { IfOk result (λ w. made_of w ≡ 0) }
+    {
+        let parts = Parts::over(alloc, parts)?;
         Ok(Work {
             parts,
             state: State::Resting,

@@ -26,15 +26,18 @@ use std::alloc::AllocError;
 use support_table::Supports;
 
 // The number of a row among the goals, the hint tried first.
+#[tactic(auto, using(ev_bind::specs::Rows::exact_rows))]
 fn goal_near(goals: &mut GoalStore, hint: usize, row: &Row) -> Result<usize, AllocError>
     ensures held { IfOk result (λ n. stored.row_at goals.new n ≡ Some row.now) }
     ensures marks { SameMarks goals.old goals.new }
     ensures plan { SamePlan goals.old goals.new }
 {
-    match goals.near(hint, row) {
-        Some(number) => Ok(number),
-        None => goals.number(row.share()?),
+    if let Some(held) = goals.row_at(hint) {
+        if held.cmp(row).is_eq() {
+            return Ok(hint);
+        }
     }
+    goals.number(row.share()?)
 }
 
 // Shows a row that has come to have a count, and drops one that has lost it. Answers a number under which the store may have it.
@@ -67,14 +70,17 @@ fn show_row(
 }
 
 // The number of a row, the hint tried first.
+#[tactic(auto, using(ev_bind::specs::Rows::exact_rows))]
 fn number_near(supports: &mut Supports, hint: usize, row: &Row) -> Result<usize, AllocError>
     ensures held { IfOk result (λ n. row_at supports.new n ≡ Some row.now) }
     ensures counts { SameCounts supports.old supports.new }
 {
-    match supports.near(hint, row) {
-        Some(number) => Ok(number),
-        None => supports.number(row.share()?),
+    if let Some(held) = supports.row(hint) {
+        if held.cmp(row).is_eq() {
+            return Ok(hint);
+        }
     }
+    supports.number(row.share()?)
 }
 
 // Applies what is noted of a row to its count. Answers the count before and after, and a number under which the row may be kept.

@@ -71,6 +71,16 @@ impl Pending {
         }
     }
 
+    /// No row comes or goes from now on. Where none does, the memory is kept for the next ones.
+    #[tactic(auto, unfolding(crate::specs::Notes::noted))]
+    pub fn clear(&mut self)
+        ensures { (s : Sign) (r : Row) → noted self.new s r ≡ 0 }
+    {
+        if !self.map.is_empty() {
+            self.map.clear();
+        }
+    }
+
     // What is noted of a row; the hint where nothing is.
     #[tactic(auto, unfolding(crate::specs::Notes::noted))]
     fn at(&self, row: &Row, hint: Hint) -> Tally

@@ -11,7 +11,15 @@ returns-clause-works c = λ b E F can ready.
     begun (hand me) b E F c.args.changes.items can (hand me).view _ can.holds.rows
     (fresh_left me ready me.goals refl me.changed.items (count_of me.supports) c.start.result c.start.ensures 0)
     (none_left me ready me.goals refl me.changed.items (count_of me.supports) c.start.result c.start.ensures 0)
-    c.new.ensures
+    c.clear.ensures
 
 pub returns-clause-ready : goal.returns-clause-ready
-returns-clause-ready c = λ r. record { ways = r.ways; stored = r.stored; listed = r.listed; few = r.few; none = r.none }
+returns-clause-ready c = λ r. record {
+  ways = r.ways;
+  planned = r.planned;
+  indexed = r.indexed;
+  stored = r.stored;
+  listed = r.listed;
+  few = r.few;
+  none = r.none;
+}

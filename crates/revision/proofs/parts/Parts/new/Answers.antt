@@ -20,6 +20,8 @@ pub returns-clause-ready : goal.returns-clause-ready
 returns-clause-ready c = record {
   ways = subst (λ ixs. AreWays ixs (caps_in c.args.caps) (map plain_step c.args.plan.steps.items) c.in_ok-ways.ways.items)
       (sym c.in_ok-goals.ensures.indexes) c.in_ok-ways.ensures;
+  planned = c.requires.indexes;
+  indexed = c.in_ok-goals.ensures.indexes;
   stored = c.in_ok-goals.ensures.steps;
   listed = c.in_ok-changed.ensures ∙ c.len.ensures ∙ c.args.plan.steps.ok.0;
   few = c.requires.few;

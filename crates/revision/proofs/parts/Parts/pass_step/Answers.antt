@@ -10,6 +10,8 @@ returns-clause-passes c = λ k left units s g here idle.
     c.clear_rows.ensures.others
     (record {
       ways = ready.ways;
+      planned = ready.planned;
+      indexed = ready.indexed;
       stored = ready.stored;
       listed = c.clear_rows.ensures.lists ∙ ready.listed;
       few = ready.few;
