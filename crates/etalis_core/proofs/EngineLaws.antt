@@ -8,7 +8,7 @@ use Rattle.ordered_lists.specs.Lists.{Each, Each-append}
 use Rattle.ordered_lists.specs.Members.{Each_has}
 use Rattle.event_model.specs.Events.{span_of, time_of}
 use Rattle.event_model.specs.declared.events.Event.{Event}
-use Rattle.event_model.specs.Presence.{History, added, settled, all_inputs, batch_inputs, extended, settles, copies, present, bound, judge, IsAccepted, OneMore}
+use Rattle.event_model.specs.Presence.{History, added, settled, all_inputs, batch_inputs, in_batch, extended, settles, copies, present, bound, judge, IsAccepted, OneMore}
 use Rattle.event_model.specs.declared.inputs.Input.{Input}
 use Rattle.event_model.specs.declared.inputs.Input.TheVariants.{Add, Take, Advance, Nothing, Begin, Commit}
 use Rattle.event_model.specs.declared.inputs.Judgement.TheVariants.{Fine}
@@ -42,12 +42,17 @@ use Rattle.horizon_meaning.specs.Listed.{cap_is, no_support_lost}
 use Rattle.horizon_meaning.specs.NoLoss.{in_cap}
 use Rattle.horizon_meaning.specs.Sound.{shown_in_cap}
 use Rattle.horizon_meaning.specs.Users.{each_among}
+use Rattle.support_table.specs.Copies.{copies_of}
+use Rattle.support_table.specs.declared.copies.Copies.{Copies}
 use Rattle.revision.specs.Holding.{visits_to, rows_held}
 use Rattle.revision.specs.Working.{steps_of, caps_of, shown_of, plan_of_work, change_of, can_work, SamePlanOf, WorkHolds, CanWork, WorkGoes}
 use Rattle.revision.specs.Working as work
+use Rattle.revision.specs.Apart.{plan_apart, PartsHold}
+use Rattle.revision.specs.declared.apart.WorkParts.{WorkParts}
 use Rattle.revision.specs.declared.work.Work.{Work}
 use Rattle.etalis_core.specs.declared.engine.Engine.{Engine}
 use Rattle.etalis_core.specs.declared.ledger.Ledger.{Ledger}
+use Rattle.etalis_core.specs.Apart.{ArePartsOf, PartsStandFor}
 use Rattle.etalis_core.specs.Kept.{number_of, HasRoom, IsLedgerOf}
 use Rattle.etalis_core.specs.StandsFor.{rules_of, late_of, is_working, is_spent, caps_for, horizon, visits_by, IsWorkOf, HaveSpans, StandsFor, WorksFrom, CanBegin}
 use Rattle.etalis_core.proofs.HistoryLaws.{own, fine_parts, all_inputs_next, same_below_next, judged_alike, settled_all, settled_same}
@@ -310,3 +315,34 @@ change_is old h input left w change is =
     before =
         spans_first (settled h) (batch_inputs h.batch) (spans_first (all_inputs h) (own input)
         (subst HaveSpans (all_inputs_next h input (fine_parts (late_of old) h input w.fine).placed) w.spans))
+
+-- ---- an engine taken apart
+
+-- its parts stand for each history for which it stands, where no batch is open in one of them
+pub parts_stand : (engine : Engine) (other h : History) → StandsFor engine other → in_batch other ≡ false → StandsFor engine h
+    → (horizon_now : ℕ) → horizon_now ≡ engine.ledger.bound → (numbers : Copies) → numbers ≡ engine.ledger.present.numbers
+    → (w : WorkParts) → plan_apart w ≡ plan_of_work engine.work → caps_in w.caps ≡ caps_of engine.work
+    → PartsHold w (horizon (late_of engine) h) (present (settled h))
+    → PartsStandFor (record { checked = engine.rules; late = engine.late; bound = horizon_now; copies = numbers; work = w }) h
+parts_stand engine other h o outside s horizon_now bounded numbers same w plan caps holds = record {
+  accepted = s.accepted;
+  spans = s.spans;
+  outside = sym s.ledger.batch ∙ o.ledger.batch ∙ outside;
+  bound = bounded ∙ s.ledger.told_bound;
+  copies = λ e. ap (λ c. copies_of c e) same ∙ s.ledger.numbers e;
+  plan = record {
+    ranking = s.plan.ranking;
+    plan = plan ∙ s.plan.plan;
+    caps = (s.plan.caps.0, caps ∙ s.plan.caps.1, s.plan.caps.2);
+  };
+  holds = holds;
+}
+
+-- a work over parts of one on the plan of these rules
+pub work_over : (w : Work) (parts : WorkParts) (rules : List PlainStatement) → ArePartsOf parts rules → plan_of_work w ≡ plan_apart parts
+    → caps_of w ≡ caps_in parts.caps → IsWorkOf w rules
+work_over w parts rules are plan caps = record {
+  ranking = are.ranking;
+  plan = plan ∙ are.plan;
+  caps = (are.caps.0, caps ∙ are.caps.1, are.caps.2);
+}

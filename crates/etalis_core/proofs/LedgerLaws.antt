@@ -22,8 +22,8 @@ use Rattle.event_changes.specs.Events.{event_of, changed_events, event_changes}
 use Rattle.etalis_core.specs.declared.present.TheConstants.{MOST_COPIES}
 use Rattle.etalis_core.specs.declared.present.Present.{Present}
 use Rattle.etalis_core.specs.declared.ledger.Ledger.{Ledger}
-use Rattle.etalis_core.specs.Kept.{number_of, copies_from, is_kept, was_kept, net_change, net_changes, HasCopies, HasRoom, IsLedgerOf}
-use Rattle.etalis_core.proofs.HistoryLaws.{own, fine_parts, all_inputs_next, bound_next, copies_from_next, same_below, same_below_next, early_alike, settles_outside}
+use Rattle.etalis_core.specs.Kept.{number_of, copies_from, is_kept, was_kept, net_change, net_changes, AreCopies, HasCopies, HasRoom, IsLedgerOf}
+use Rattle.etalis_core.proofs.HistoryLaws.{own, fine_parts, all_inputs_next, bound_next, copies_from_next, same_below, same_below_next, early_alike, settles_outside, all_settled}
 use Rattle.etalis_core.proofs.PresentLaws.{has_copy}
 
 -- ---- the net changes, event by event
@@ -234,3 +234,25 @@ ledger_settled old new late told h l counts none bounded next batch =
         at : (c : Bool) → nat_lt t high ≡ c → (if c then 0 else (if nat_lt t low then 0 else n)) ≡ (if c then 0 else n)
         at true e = refl
         at false e = ap (λ d. if d then 0 else n) (not_lower e)
+
+-- a ledger of a history in which no batch is open: without changes, with the bound and the copies of events from the bound on
+pub ledger_over : (new : Ledger) (late : Option ℕ) (h : History) → in_batch h ≡ false
+    → AreCopies (number_of new.present) (bound late (settled h)) (all_inputs h) → new.present.changed.keys ≡ []
+    → new.bound ≡ bound late (settled h) → new.next_bound ≡ bound late (settled h) → new.in_batch ≡ false
+    → IsLedgerOf new late (settled h) h
+ledger_over new late h outside numbers none bounded next batch =
+    let told : all_inputs h ≡ settled h = all_settled h outside in
+    subst (λ xs. IsLedgerOf new late xs h) told
+    (let b : ℕ = bound late (all_inputs h) in
+    let counts : HasCopies new.present b (all_inputs h) =
+    subst (λ xs. HasCopies new.present (bound late xs) (all_inputs h)) (sym told) numbers in
+    record {
+      numbers = counts;
+      net = net_from_was new.present b (all_inputs h) (all_inputs h) counts refl
+          (λ e. ap (λ l. if has event_cmp e l then not (is_kept new.present e) else is_kept new.present e) none
+          ∙ kept_is new.present b (all_inputs h) (all_inputs h) counts refl e);
+      told_bound = bounded ∙ ap (bound late) (sym told);
+      next_bound = next ∙ ap (bound late) (sym told);
+      rises = omega arith;
+      batch = batch ∙ sym outside;
+    })

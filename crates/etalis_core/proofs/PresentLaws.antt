@@ -1,5 +1,5 @@
 -- Copies and changes of events, after a copy came or went.
-use Rattle.std.proofs.Common.{◌≡◌, ℕ, ◌+◌, ◌-◌, ◌<◌, ◌&&◌, zero, suc, Bool, true, false, not, List, [], ◌∷◌, OnOk, OnErr, Result, Ok, Err, refl, sym, ap, ◌∙◌, subst, arith}
+use Rattle.std.proofs.Common.{◌≡◌, ℕ, ◌+◌, ◌-◌, ◌<◌, ◌&&◌, ◌==◌, ◌⊎◌, inl, inr, zero, suc, Bool, true, false, not, List, [], ◌∷◌, OnOk, OnErr, Result, Ok, Err, refl, sym, ap, ◌∙◌, subst, arith}
 use Rattle.std.specs.Prelude.{nat_le, nat_lt, if◌then◌else◌}
 use Rattle.std.specs.List.{filter}
 use Rattle.std.specs.Ordering.{is_eq, ordering_reverse}
@@ -14,6 +14,8 @@ use Rattle.event_model.specs.EventOrder.{event_cmp, exact_events}
 use Rattle.event_model.specs.Presence.{added, taken, occurrences, copies, present}
 use Rattle.event_model.specs.declared.inputs.Input.{Input}
 use Rattle.event_model.specs.declared.inputs.Input.TheVariants.{Add, Take}
+use Rattle.support_table.specs.declared.supports.Change.{Change}
+use Rattle.support_table.specs.declared.supports.Change.TheVariants.{Appeared, Vanished, Same}
 use Rattle.etalis_core.specs.Kept.{copies_from}
 use Rattle.etalis_core.proofs.HistoryLaws.{has-present, rising-present}
 
@@ -99,9 +101,23 @@ module _ (k : Event) (f g : Event → ℕ) where
       at true t = one_less (g e) (f e) (omega (arith, less e, (this e t).0)) (λ is. had (sym (this e t).1 ∙ is))
       at false t = ap (nat_lt 0) (let same : g e ≡ f e = omega (arith, less e, other e t) in same)
 
-  -- a copy that came and went again
-  pub put_back : (h : Event → ℕ) → OneMore → ((e : Event) → h e ≡ g e - occurrences e (k ∷ [])) → (e : Event) → h e ≡ f e
-  put_back h more less e = omega (arith, more e, less e)
+-- ---- what the change of a number tells of it
+
+abbrev pub has_appeared : Change → Bool
+has_appeared Appeared = true
+has_appeared Vanished = false
+has_appeared Same = false
+
+pub was_none : (n : ℕ) → Appeared ≡ (if n == 0 then Appeared else Same) → n ≡ 0
+was_none n e = at (n == 0) refl e
+  where
+    at : (b : Bool) → (n == 0) ≡ b → Appeared ≡ (if b then Appeared else Same) → n ≡ 0
+    at true is same = grind (arith, nat_tests)
+    at false is same = absurd (true≢false (ap has_appeared same))
+
+pub was_some : (n : ℕ) (c : Change) → (c ≡ Same) ⊎ (c ≡ Vanished) → c ≡ (if n == 0 then Appeared else Same) → n ≡ 0 → ⊥
+was_some n c is e none =
+    true≢false (sym (ap (λ m. has_appeared (if m == 0 then Appeared else Same)) none) ∙ ap has_appeared (sym e) ∙ elim is [ inl s ↦ ap has_appeared s | inr v ↦ ap has_appeared v ])
 
 -- ---- whether an event was present
 

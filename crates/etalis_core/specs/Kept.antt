@@ -27,9 +27,13 @@ number_of kept e = copies_of kept.numbers e
 abbrev pub copies_from : ℕ → (Event → ℕ) → Event → ℕ
 copies_from from number e = if nat_lt (time_of e) from then 0 else number e
 
--- the numbers that are kept are the copies of these inputs, of the events from this time on
+-- these numbers are the copies of these inputs, of the events from this time on
+abbrev pub AreCopies : (Event → ℕ) → ℕ → List Input → Type 0
+AreCopies number from inputs = (e : Event) → number e ≡ copies_from from (copies inputs) e
+
+-- and so are those that are kept
 abbrev pub HasCopies : Present → ℕ → List Input → Type 0
-HasCopies kept from inputs = (e : Event) → number_of kept e ≡ copies_from from (copies inputs) e
+HasCopies kept from inputs = AreCopies (number_of kept) from inputs
 
 -- whether a copy of an event is kept
 abbrev pub is_kept : Present → Event → Bool

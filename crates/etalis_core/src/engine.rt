@@ -1,4 +1,5 @@
 // The engine.
+use crate::apart::EngineParts;
 use crate::faults::{EngineFault, StartFault};
 use crate::held::Held;
 use crate::ledger::Ledger;
@@ -39,6 +40,7 @@ impl Engine {
     ghost use Rattle.revision.specs.Holding.{counted};
     ghost use Rattle.etalis_core.specs.StandsFor.{rules_of, late_of, is_working, is_spent, last_change, visits_of, visits_by, work_left};
     ghost use Rattle.etalis_core.specs.StandsFor.{rows_kept, events_kept, StandsFor, WorksFrom, CanBegin};
+    ghost use Rattle.etalis_core.specs.Apart.{parts_of, rules_apart, PartsStandFor};
 
     /// Before the first input. The lateness is how far the time of an event may lie behind the greatest that came; without one
     /// events raise no bound. Rules whose plan has more than 65,536 steps have no engine.
@@ -67,6 +69,58 @@ impl Engine {
             rules: checked,
             late,
             ledger: Ledger::new(alloc),
+            work,
+            spent: false,
+        })
+    }
+
+    /// Takes it apart between inputs and outside a batch, into all that it keeps.
+    pub fn apart(self) -> EngineParts
+        requires { (history : History) × StandsFor self history × (in_batch history ≡ false) }
+        ensures stands { (history : History) → StandsFor self history → PartsStandFor result history }
+        ensures parts { result ≡ parts_of self }
+    {
+        let Engine {
+            alloc: _,
+            rules,
+            late,
+            ledger,
+            work,
+            spent: _,
+        } = self;
+        let (bound, copies) = ledger.apart();
+        EngineParts {
+            checked: rules,
+            late,
+            bound,
+            copies,
+            work: work.apart(),
+        }
+    }
+
+    /// From the parts of one, given nothing else.
+    pub fn over(alloc: Global, parts: EngineParts) -> Result<Engine, AllocError>
+        requires { (history : History) × PartsStandFor parts history }
+        ensures stands { (history : History) → PartsStandFor parts history → IfOk result (λ engine. StandsFor engine history) }
+        ensures rules { IfOk result (λ engine. rules_of engine ≡ rules_apart parts) }
+        ensures late { IfOk result (λ engine. late_of engine ≡ parts.late) }
+        ensures change { IfOk result (λ engine. last_change engine ≡ record { gone = []; come = [] }) }
+        ensures resting { IfOk result (λ engine. is_working engine ≡ false) }
+        ensures unspent { IfOk result (λ engine. is_spent engine ≡ false) }
+    {
+        let EngineParts {
+            checked,
+            late,
+            bound,
+            copies,
+            work,
+        } = parts;
+        let work = Work::over(alloc, work)?;
+        Ok(Engine {
+            alloc,
+            rules: checked,
+            late,
+            ledger: Ledger::over(alloc, bound, copies),
             work,
             spent: false,
         })

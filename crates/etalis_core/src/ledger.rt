@@ -4,6 +4,7 @@ use crate::present::Present;
 use event_changes::EventChange;
 use event_model::{Input, Judgement};
 use std::alloc::{AllocError, Global};
+use support_table::Copies;
 
 /// What the inputs come to, those of an open batch too. It knows how the next input is judged, and how the events that are present
 /// differ from those at the last settlement. It keeps no events below the bound.
@@ -16,7 +17,7 @@ pub struct Ledger {
 }
 
 impl Ledger {
-    ghost use Rattle.std.specs.Prelude.{◌≡◌, ℕ, nat_le, Option, List, [], length, OnOk, OnErr, IfOk};
+    ghost use Rattle.std.specs.Prelude.{◌≡◌, ℕ, nat_le, Option, List, [], length, false, OnOk, OnErr, IfOk};
     ghost use Rattle.std.specs.List.{filter};
     ghost use Rattle.event_model.specs.Events.{time_of};
     ghost use Rattle.event_model.specs.declared.inputs.Input.{Input};
@@ -25,7 +26,8 @@ impl Ledger {
     ghost use Rattle.event_model.specs.Presence.{bound, present, judge, IsAccepted};
     ghost use Rattle.event_changes.specs.Events.{event_changes};
     ghost use Rattle.change_meaning.specs.Moved.{AreSpans};
-    ghost use Rattle.etalis_core.specs.Kept.{number_of, HasRoom, IsLedgerOf};
+    ghost use Rattle.support_table.specs.Copies.{copies_of};
+    ghost use Rattle.etalis_core.specs.Kept.{number_of, AreCopies, HasRoom, IsLedgerOf};
 
     /// Of no inputs.
     pub fn new(alloc: Global) -> Ledger
@@ -37,6 +39,34 @@ impl Ledger {
             next_bound: 0,
             in_batch: false,
         }
+    }
+
+    /// Of a history in which no batch is open, by its bound and the copies of its events from the bound on.
+    pub fn over(alloc: Global, horizon: u64, copies: Copies) -> Ledger
+        ensures { (late : Option ℕ) (history : History) → in_batch history ≡ false → horizon ≡ bound late (settled history)
+            → AreCopies (copies_of copies) (bound late (settled history)) (all_inputs history)
+            → IsLedgerOf result late (settled history) history }
+    {
+        Ledger {
+            present: Present::over(alloc, copies),
+            bound: horizon,
+            next_bound: horizon,
+            in_batch: false,
+        }
+    }
+
+    /// The bound and the copies alone.
+    pub fn apart(self) -> (u64, Copies)
+        ensures bound { result.0 ≡ self.bound }
+        ensures copies { result.1 ≡ self.present.numbers }
+    {
+        let Ledger {
+            present,
+            bound,
+            next_bound: _,
+            in_batch: _,
+        } = self;
+        (bound, present.apart())
     }
 
     /// The bound at the last settlement.

@@ -2,6 +2,7 @@
 //! that stand.
 #![tactic(auto)]
 
+mod apart;
 mod engine;
 mod faults;
 mod held;
@@ -10,6 +11,7 @@ mod ledger;
 mod present;
 mod roll;
 
+pub use apart::EngineParts;
 pub use engine::Engine;
 pub use faults::{EngineFault, StartFault};
 pub use held::Held;

@@ -11,7 +11,7 @@ use event_changes::EventChange;
 use event_model::{Event, Input};
 use std::alloc::{AllocError, Global};
 use std::collections::BTreeSet;
-use support_table::Copies;
+use support_table::{Change, Copies};
 
 /// The most copies of an event.
 pub const MOST_COPIES: u64 = support_table::MOST_COPIES;
@@ -44,6 +44,7 @@ impl Present {
     ghost use Rattle.event_model.specs.Events.{time_of};
     ghost use Rattle.event_model.specs.Presence.{added, taken, occurrences, present, is_absent, is_below};
     ghost use Rattle.event_model.specs.declared.inputs.Input.{Input};
+    ghost use Rattle.support_table.specs.Copies.{copies_of};
     ghost use Rattle.etalis_core.specs.Kept.{number_of, copies_from, was_kept, net_change, net_changes, HasCopies, HasRoom};
 
     /// No events, and no changes.
@@ -55,6 +56,28 @@ impl Present {
             numbers: Copies::new(alloc),
             changed: BTreeSet::new(alloc),
         }
+    }
+
+    /// These copies, and no changes.
+    pub fn over(alloc: Global, numbers: Copies) -> Present
+        ensures numbers { (e : Event) → number_of result e ≡ copies_of numbers e }
+        ensures changed { result.changed.keys ≡ [] }
+    {
+        Present {
+            numbers,
+            changed: BTreeSet::new(alloc),
+        }
+    }
+
+    /// The copies alone.
+    pub fn apart(self) -> Copies
+        ensures { result ≡ self.numbers }
+    {
+        let Present {
+            numbers,
+            changed: _,
+        } = self;
+        numbers
     }
 
     /// The copies of an event.
@@ -111,24 +134,8 @@ impl Present {
         ensures numbers { (e : Event) → number_of self.new e ≡ copies_from bound (number_of self.old) e }
         ensures changed { self.new.changed.keys ≡ [] }
     {
-        self.changed.clear();
+        while self.changed.pop_first().is_some() {}
         self.numbers.drop_below(bound);
-    }
-
-    // Adds the first copy of an event.
-    fn add_first(&mut self, event: &Event) -> Result<(), AllocError>
-        requires { number_of self.old event.now ≡ 0 }
-        ensures numbers { (e : Event) → OnOk result (number_of self.new e ≡ number_of self.old e + occurrences e (event.now ∷ [])) }
-        ensures was { (e : Event) → OnOk result (was_kept self.new e ≡ was_kept self.old e) }
-        ensures err_numbers { (e : Event) → OnErr result (number_of self.new e ≡ number_of self.old e) }
-        ensures err_changed { OnErr result (self.new.changed.keys ≡ self.old.changed.keys) }
-    {
-        self.numbers.add(event)?;
-        if let Err(fault) = flip(&mut self.changed, event) {
-            self.numbers.take(event);
-            return Err(fault);
-        }
-        Ok(())
     }
 
     // Adds a copy of an event.
@@ -139,11 +146,16 @@ impl Present {
         ensures err_numbers { (e : Event) → OnErr result (number_of self.new e ≡ number_of self.old e) }
         ensures err_changed { OnErr result (self.new.changed.keys ≡ self.old.changed.keys) }
     {
-        if self.number_of(event) == 0 {
-            return self.add_first(event);
+        match self.numbers.add(event)? {
+            Change::Appeared => {
+                if let Err(fault) = flip(&mut self.changed, event) {
+                    self.numbers.take(event);
+                    return Err(fault);
+                }
+                Ok(())
+            }
+            Change::Same | Change::Vanished => Ok(()),
         }
-        self.numbers.add(event)?;
-        Ok(())
     }
 
     // Takes the last copy of an event away.
