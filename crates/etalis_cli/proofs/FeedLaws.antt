@@ -81,10 +81,10 @@ pub record Drained (start : Talk) (part piece text : List ℕ) (session : Sessio
   pub holds : Holds reader taken.left
 
 -- Of these replies the first ones went out, and the others are gathered.
-pub record Sending (before : Session) (first : LineReader) (piece : List ℕ) (got got' : Option (List ℕ)) (text : List ℕ) (session : Session) (reader : LineReader) : Type 0 where
+pub record Sending (start : Talk) (part piece : List ℕ) (got got' : Option (List ℕ)) (text : List ℕ) (session : Session) (reader : LineReader) : Type 0 where
   pub sent : List ℕ
   pub gives : Gives got got' sent
-  pub drained : (t : Talk) (part : List ℕ) → Between before first t part → Drained t part piece (sent ++ text) session reader
+  pub drained : Drained start part piece (sent ++ text) session reader
 
 pub drained_none : (s : Talk) (part piece text : List ℕ) (session : Session) (reader : LineReader) → text ≡ [] → StandsFor session s → Holds reader (part ++ piece) → Drained s part piece text session reader
 drained_none s part piece text session reader e p h = record {

@@ -7,3 +7,4 @@ pub mod NoteLaws
 pub mod JobLaws
 pub mod ReplyLaws
 pub mod TopLaws
+pub mod SendLaws

@@ -1,13 +1,17 @@
 -- What a piece of the input does to what lines have come to, to the part of a line that is kept, and to the output.
-use Rattle.std.specs.Prelude.{◌≡◌, ℕ, List, ◌++◌, Option}
+use Rattle.std.specs.Prelude.{◌≡◌, ◌<◌, ◌≤◌, ℕ, List, [], ◌++◌, Option}
 use Rattle.flow_ports.specs.Flow.{Gives, GivesPart}
 use Rattle.event_model.specs.Lines.{ended_from, rest_from}
+use Rattle.event_model.specs.Presence.{verdict}
+use Rattle.event_reader.specs.Machine.{heard}
 use Rattle.line_reader.specs.Cutting.{NoFeed}
 use Rattle.line_reader.specs.Holding.{Holds}
 use Rattle.line_reader.specs.declared.reading.LineReader.{LineReader}
 use Rattle.etalis_cli.specs.Output.{Talk, after, replies}
+use Rattle.etalis_cli.specs.Replying.{visits_for}
 use Rattle.etalis_cli.specs.StandsFor.{StandsFor}
 use Rattle.etalis_cli.specs.declared.session.Session.{Session}
+use Rattle.etalis_cli.specs.declared.replying.TheConstants.{UNITS}
 
 -- what is kept between two pieces, and what the output has got
 pub record Kept : Type 0 where
@@ -43,3 +47,13 @@ pub record Sends (got got' : Option (List ℕ)) (text text' : List ℕ) : Type 0
   pub sent : List ℕ
   pub gives : Gives got got' sent
   pub whole : text ≡ sent ++ text'
+
+-- how many visits of rows a line takes
+abbrev pub visits_at : Talk → List ℕ → ℕ
+visits_at t line = visits_for t.state.rules t.state.late t.state.history (verdict t.state.late t.state.history (heard line))
+
+-- What was gathered before a line that takes so many visits went out, where one turn of the engine isn't enough for them; else it is
+-- gathered still.
+pub record SendsBefore (visits : ℕ) (got got' : Option (List ℕ)) (text text' : List ℕ) : Type 0 where
+  pub slow : UNITS < visits → Gives got got' text × (text' ≡ [])
+  pub quick : visits ≤ UNITS → (got' ≡ got) × (text' ≡ text)

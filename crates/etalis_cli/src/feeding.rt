@@ -1,64 +1,17 @@
 // Pieces of the input to lines, and lines to replies.
-ghost use Rattle.std.specs.Prelude.{◌≡◌, ◌+◌, ◌<◌, ◌≤◌, ℕ, List, length, vec_len, OnOk, OnErr, IsErrOf};
-ghost use Rattle.flow_ports.specs.Flow.{Rose, CountsFaults, GivesPart};
+ghost use Rattle.std.specs.Prelude.{◌≡◌, ◌+◌, ◌<◌, ◌≤◌, ℕ, List, length, OnOk, OnErr, IsErrOf};
+ghost use Rattle.flow_ports.specs.Flow.{Rose};
 ghost use Rattle.etalis_core.specs.declared.present.TheConstants.{MOST_COPIES};
 ghost use Rattle.etalis_cli.specs.Output.{Talk};
-ghost use Rattle.etalis_cli.specs.Feeds.{Between, FedTo, FeedsPart, Sends};
+ghost use Rattle.etalis_cli.specs.Feeds.{Between, FedTo, FeedsPart};
 
+use crate::sending::{FeedFault, send_full};
 use crate::session::Session;
-use flow_ports::{Failed, Sink, write_whole};
+use flow_ports::{Sink, write_whole};
 use line_reader::LineReader;
-use std::alloc::AllocError;
-use thiserror::Error;
-
-/// Why a piece wasn't answered to its end.
-#[derive(Clone, Copy, Debug, PartialEq, Eq, Error)]
-pub enum FeedFault {
-    #[error("the output failed")]
-    Write,
-    #[error("no memory is left")]
-    Memory,
-}
-
-impl From<AllocError> for FeedFault {
-    ghost use Rattle.etalis_cli.specs.declared.feeding.FeedFault.TheVariants.{Memory};
-
-    ghost from_gives = { λ _ f. f ≡ Memory };
-
-    fn from(_error: AllocError) -> FeedFault {
-        FeedFault::Memory
-    }
-}
-
-impl From<Failed> for FeedFault {
-    ghost use Rattle.etalis_cli.specs.declared.feeding.FeedFault.TheVariants.{Write};
-
-    ghost from_gives = { λ _ f. f ≡ Write };
-
-    fn from(_fault: Failed) -> FeedFault {
-        FeedFault::Write
-    }
-}
-
-/// Replies are gathered up to so many bytes.
-pub const MOST_GATHERED_BYTES: usize = 65_536;
-
-// Sends what was gathered once it is so much.
-fn send_full<O: Sink>(text: &mut Vec<u8>, out: &mut O) -> Result<(), Failed>
-    ensures ok { OnOk result (Sends (O.got out.old) (O.got out.new) text.old.items text.new.items) }
-    ensures err { OnErr result (GivesPart (O.got out.old) (O.got out.new) text.old.items) }
-    ensures few { OnOk result (vec_len text.new < MOST_GATHERED_BYTES) }
-    ensures count { CountsFaults (O.faults out.old) (O.faults out.new) result }
-{
-    if text.len() >= MOST_GATHERED_BYTES {
-        write_whole(out, text)?;
-        text.clear();
-    }
-    Ok(())
-}
 
 /// Reads a piece of the input. The replies to the lines that it ends are gathered in the buffer `text`. They go out once they are
-/// `MOST_GATHERED_BYTES`, and at the end of the piece.
+/// `MOST_GATHERED_BYTES`, where a later line takes more than one turn of the engine, and at the end of the piece.
 pub fn feed<O: Sink>(
     session: &mut Session,
     reader: &mut LineReader,
@@ -80,7 +33,7 @@ pub fn feed<O: Sink>(
     text.clear();
     reader.feed(piece)?;
     while let Some(line) = reader.next_line() {
-        session.answer(line, text)?;
+        session.answer(line, text, out)?;
         send_full(text, out)?;
     }
     write_whole(out, text)?;

@@ -1,5 +1,6 @@
 // Lines to what they come to.
-ghost use Rattle.std.specs.Prelude.{◌≡◌, ◌<◌, ◌≤◌, ℕ, List, length, true, false, is_some, IfOk, OnOk};
+ghost use Rattle.std.specs.Prelude.{◌≡◌, ◌<◌, ◌≤◌, ◌+◌, ℕ, List, length, true, false, is_some, IfOk, OnOk, OnErr, IsErrOf};
+ghost use Rattle.flow_ports.specs.Flow.{Rose, GivesPart};
 ghost use Rattle.event_model.specs.Lines.{without_cr};
 ghost use Rattle.event_model.specs.Presence.{History, all_inputs, extended, settles, judge, verdict, after_verdict};
 ghost use Rattle.event_model.specs.declared.inputs.Judgement.TheVariants.{Fine};
@@ -11,14 +12,17 @@ ghost use Rattle.etalis_core.specs.StandsFor.{StandsFor, WorksFrom, CanBegin, ru
 ghost use Rattle.etalis_core.specs.declared.present.TheConstants.{MOST_COPIES};
 ghost use Rattle.revision.specs.Holding.{counted as capped};
 ghost use Rattle.etalis_cli.specs.Output.{visits_told, visits_in};
-ghost use Rattle.etalis_cli.specs.Replying.{refusal_of, reply_by, HasVisits};
+ghost use Rattle.etalis_cli.specs.Replying.{refusal_of, reply_by, HasVisits, visits_made, visits_for};
+ghost use Rattle.etalis_cli.specs.Feeds.{Sends, SendsBefore};
 ghost use Rattle.etalis_cli.specs.StandsFor.{KeepsAll};
 
 use crate::keeping::keep;
+use crate::sending::{FeedFault, send_all};
 use etalis_core::{Engine, Roll};
 use event_changes::Progress;
 use event_model::{Input, Judgement, MOST_LINE_BYTES, Refusal};
 use event_reader::{LineFault, parse_line};
+use flow_ports::Sink;
 use line_reader::Line;
 use std::alloc::{AllocError, Global};
 
@@ -32,8 +36,8 @@ pub enum Answer {
     Changed,
 }
 
-// How many visits a turn of the engine may make.
-const UNITS: u32 = 1024;
+/// How many visits a turn of the engine may make.
+pub const UNITS: u32 = 1024;
 
 // Why an input that is judged so is refused.
 fn refusal_of(judgement: Judgement) -> Option<Refusal>
@@ -58,7 +62,7 @@ fn says_nothing(input: &Input) -> bool
 }
 
 // Has the engine work until the input that was begun is done.
-fn finish(engine: &mut Engine) -> Result<(), AllocError>
+fn go_on(engine: &mut Engine) -> Result<(), AllocError>
     requires { is_working engine.old ≡ true }
     ensures stands { (h : History) (input : Input) (left : ℕ) → WorksFrom engine.old h input left
         → OnOk result (StandsFor engine.new (extended h input)) }
@@ -80,8 +84,48 @@ fn finish(engine: &mut Engine) -> Result<(), AllocError>
     }
 }
 
+// The same. Where one turn isn't enough, what was gathered goes out behind it.
+fn finish<O: Sink>(engine: &mut Engine, text: &mut Vec<u8>, out: &mut O) -> Result<(), FeedFault>
+    requires { is_working engine.old ≡ true }
+    ensures stands { (h : History) (input : Input) (left : ℕ) → WorksFrom engine.old h input left
+        → OnOk result (StandsFor engine.new (extended h input)) }
+    ensures change { (h : History) (input : Input) (left : ℕ) → WorksFrom engine.old h input left
+        → OnOk result (last_change engine.new ≡ change_by (rules_of engine.old) h input) }
+    ensures visits { (h : History) (input : Input) (left : ℕ) → WorksFrom engine.old h input left
+        → OnOk result (visits_of engine.new ≡ capped (visits_by (rules_of engine.old) (late_of engine.old) h input)) }
+    ensures resting { OnOk result (is_working engine.new ≡ false) }
+    ensures unspent { OnOk result (is_spent engine.new ≡ false) }
+    ensures rules { OnOk result (rules_of engine.new ≡ rules_of engine.old) }
+    ensures late { OnOk result (late_of engine.new ≡ late_of engine.old) }
+    ensures early { (h : History) (input : Input) (left : ℕ) → WorksFrom engine.old h input left
+        → OnOk result (SendsBefore left (O.got out.old) (O.got out.new) text.old.items text.new.items) }
+    // Where the output fails, the engine has made one turn.
+    ensures first { (h : History) (input : Input) (left : ℕ) → WorksFrom engine.old h input left
+        → IsErrOf result FeedFault.Write → (now : ℕ) × WorksFrom engine.new h input now × (now + UNITS ≡ left) }
+    ensures sends { OnOk result (Sends (O.got out.old) (O.got out.new) text.old.items text.new.items) }
+    ensures err { OnErr result (GivesPart (O.got out.old) (O.got out.new) text.old.items) }
+    ensures write { IsErrOf result FeedFault.Write → Rose (O.faults out.old) (O.faults out.new) }
+    ensures memory { IsErrOf result FeedFault.Memory → O.faults out.new ≡ O.faults out.old }
+    ensures count { OnOk result (O.faults out.new ≡ O.faults out.old) }
+{
+    match engine.turn(UNITS) {
+        Ok(Progress::Done) => Ok(()),
+        Ok(Progress::More) => {
+            send_all(text, out)?;
+            go_on(engine)?;
+            Ok(())
+        }
+        Err(_) => Err(FeedFault::Memory),
+    }
+}
+
 // Has the engine accept an input that is fine, and answers whether that settled something. The engine works only where it did.
-fn accept(engine: &mut Engine, input: Input) -> Result<bool, AllocError>
+fn accept<O: Sink>(
+    engine: &mut Engine,
+    input: Input,
+    text: &mut Vec<u8>,
+    out: &mut O,
+) -> Result<bool, FeedFault>
     requires { (h : History) × CanBegin engine.old h input }
     ensures settled { (h : History) → StandsFor engine.old h → IfOk result (λ settled. settled ≡ settles h input) }
     ensures stands { (h : History) → StandsFor engine.old h → OnOk result (StandsFor engine.new (extended h input)) }
@@ -93,24 +137,34 @@ fn accept(engine: &mut Engine, input: Input) -> Result<bool, AllocError>
     ensures unspent { OnOk result (is_spent engine.new ≡ false) }
     ensures rules { OnOk result (rules_of engine.new ≡ rules_of engine.old) }
     ensures late { OnOk result (late_of engine.new ≡ late_of engine.old) }
+    ensures early { (h : History) → StandsFor engine.old h
+        → OnOk result (SendsBefore (visits_made (rules_of engine.old) (late_of engine.old) h input)
+        (O.got out.old) (O.got out.new) text.old.items text.new.items) }
+    ensures sends { OnOk result (Sends (O.got out.old) (O.got out.new) text.old.items text.new.items) }
+    ensures err { OnErr result (GivesPart (O.got out.old) (O.got out.new) text.old.items) }
+    ensures write { IsErrOf result FeedFault.Write → Rose (O.faults out.old) (O.faults out.new) }
+    ensures memory { IsErrOf result FeedFault.Memory → O.faults out.new ≡ O.faults out.old }
+    ensures count { OnOk result (O.faults out.new ≡ O.faults out.old) }
 {
     match engine.begin(input) {
         Ok(()) => {}
-        Err(_) => return Err(AllocError),
+        Err(_) => return Err(FeedFault::Memory),
     }
     if !engine.working() {
         return Ok(false);
     }
-    finish(engine)?;
+    finish(engine, text, out)?;
     Ok(true)
 }
 
 // Accepts an input that is fine.
-fn take_input(
+fn take_input<O: Sink>(
     engine: &mut Engine,
     roll: &mut Option<Roll>,
     input: Input,
-) -> Result<Answer, AllocError>
+    text: &mut Vec<u8>,
+    out: &mut O,
+) -> Result<Answer, FeedFault>
     requires { (h : History) × CanBegin engine.old h input × KeepsAll roll.old (late_of engine.old) h }
     ensures stands { (h : History) → StandsFor engine.old h → OnOk result (StandsFor engine.new (extended h input)) }
     ensures all { (h : History) → StandsFor engine.old h → judge (late_of engine.old) h input ≡ Fine
@@ -124,10 +178,18 @@ fn take_input(
     ensures unspent { OnOk result (is_spent engine.new ≡ false) }
     ensures rules { OnOk result (rules_of engine.new ≡ rules_of engine.old) }
     ensures late { OnOk result (late_of engine.new ≡ late_of engine.old) }
+    ensures early { (h : History) → StandsFor engine.old h
+        → OnOk result (SendsBefore (visits_made (rules_of engine.old) (late_of engine.old) h input)
+        (O.got out.old) (O.got out.new) text.old.items text.new.items) }
+    ensures sends { OnOk result (Sends (O.got out.old) (O.got out.new) text.old.items text.new.items) }
+    ensures err { OnErr result (GivesPart (O.got out.old) (O.got out.new) text.old.items) }
+    ensures write { IsErrOf result FeedFault.Write → Rose (O.faults out.old) (O.faults out.new) }
+    ensures memory { IsErrOf result FeedFault.Memory → O.faults out.new ≡ O.faults out.old }
+    ensures count { OnOk result (O.faults out.new ≡ O.faults out.old) }
 {
     let silent = says_nothing(&input);
     keep(roll, engine.late(), &input)?;
-    let settled = accept(engine, input)?;
+    let settled = accept(engine, input, text, out)?;
     if !settled || silent {
         return Ok(Answer::Silent);
     }
@@ -135,12 +197,14 @@ fn take_input(
 }
 
 // Judges a line that isn't too long, and accepts it where it is fine.
-fn take_short(
+fn take_short<O: Sink>(
     alloc: Global,
     engine: &mut Engine,
     roll: &mut Option<Roll>,
     line: &[u8],
-) -> Result<Answer, AllocError>
+    text: &mut Vec<u8>,
+    out: &mut O,
+) -> Result<Answer, FeedFault>
     requires stands { (h : History) × StandsFor engine.old h × KeepsAll roll.old (late_of engine.old) h
         × (length (all_inputs h) < MOST_COPIES) }
     requires short { length line.now ≤ MOST_LINE_BYTES }
@@ -159,25 +223,36 @@ fn take_short(
     ensures unspent { OnOk result (is_spent engine.new ≡ false) }
     ensures rules { OnOk result (rules_of engine.new ≡ rules_of engine.old) }
     ensures late { OnOk result (late_of engine.new ≡ late_of engine.old) }
+    ensures early { (h : History) → StandsFor engine.old h → let judged = verdict (late_of engine.old) h (heard line.now) in
+        OnOk result (SendsBefore (visits_for (rules_of engine.old) (late_of engine.old) h judged)
+        (O.got out.old) (O.got out.new) text.old.items text.new.items) }
+    ensures sends { OnOk result (Sends (O.got out.old) (O.got out.new) text.old.items text.new.items) }
+    ensures err { OnErr result (GivesPart (O.got out.old) (O.got out.new) text.old.items) }
+    ensures write { IsErrOf result FeedFault.Write → Rose (O.faults out.old) (O.faults out.new) }
+    ensures memory { IsErrOf result FeedFault.Memory → O.faults out.new ≡ O.faults out.old }
+    ensures count { OnOk result (O.faults out.new ≡ O.faults out.old) }
 {
     let input = match parse_line(alloc, line) {
         Ok(input) => input,
         Err(LineFault::Syntax(at)) => return Ok(Answer::Refused(Refusal::Syntax(at as u64))),
-        Err(LineFault::Memory) => return Err(AllocError),
+        Err(LineFault::Memory) => return Err(FeedFault::Memory),
     };
     match refusal_of(engine.judge(&input)) {
         Some(refusal) => Ok(Answer::Refused(refusal)),
-        None => take_input(engine, roll, input),
+        None => take_input(engine, roll, input, text, out),
     }
 }
 
-/// Judges a line, and accepts it where it is fine; a roll follows. After an `Err` no more lines should follow.
-pub fn take_line(
+/// Judges a line, and accepts it where it is fine; a roll follows. Where the engine needs more than one turn, what was gathered goes
+/// out behind the first. After an `Err` no more lines should follow.
+pub fn take_line<O: Sink>(
     alloc: Global,
     engine: &mut Engine,
     roll: &mut Option<Roll>,
     line: Line<'_>,
-) -> Result<Answer, AllocError>
+    text: &mut Vec<u8>,
+    out: &mut O,
+) -> Result<Answer, FeedFault>
     requires stands { (h : History) × StandsFor engine.old h × KeepsAll roll.old (late_of engine.old) h
         × (length (all_inputs h) < MOST_COPIES) }
     requires line { (raw : List ℕ) × IsLine line raw }
@@ -199,9 +274,18 @@ pub fn take_line(
     ensures unspent { OnOk result (is_spent engine.new ≡ false) }
     ensures rules { OnOk result (rules_of engine.new ≡ rules_of engine.old) }
     ensures late { OnOk result (late_of engine.new ≡ late_of engine.old) }
+    ensures early { (h : History) (raw : List ℕ) → StandsFor engine.old h → IsLine line.entry raw
+        → let judged = verdict (late_of engine.old) h (heard (without_cr raw)) in
+        OnOk result (SendsBefore (visits_for (rules_of engine.old) (late_of engine.old) h judged)
+        (O.got out.old) (O.got out.new) text.old.items text.new.items) }
+    ensures sends { OnOk result (Sends (O.got out.old) (O.got out.new) text.old.items text.new.items) }
+    ensures err { OnErr result (GivesPart (O.got out.old) (O.got out.new) text.old.items) }
+    ensures write { IsErrOf result FeedFault.Write → Rose (O.faults out.old) (O.faults out.new) }
+    ensures memory { IsErrOf result FeedFault.Memory → O.faults out.new ≡ O.faults out.old }
+    ensures count { OnOk result (O.faults out.new ≡ O.faults out.old) }
 {
     match line {
-        Line::Bytes(bytes) => take_short(alloc, engine, roll, bytes),
+        Line::Bytes(bytes) => take_short(alloc, engine, roll, bytes, text, out),
         Line::Long => Ok(Answer::Refused(Refusal::Syntax(MOST_LINE_BYTES as u64))),
     }
 }

@@ -7,7 +7,8 @@ ghost use Rattle.etalis_cli.specs.Feeds.{Between};
 ghost use Rattle.etalis_cli.specs.Outcome.{Served, Written, Counted, tail};
 ghost use Rattle.etalis_core.specs.declared.present.TheConstants.{MOST_COPIES};
 
-use crate::feeding::{FeedFault, feed};
+use crate::feeding::feed;
+use crate::sending::FeedFault;
 use crate::session::Session;
 use flow_ports::{Failed, Sink, Source, write_whole};
 use line_reader::LineReader;
@@ -43,23 +44,32 @@ pub const INPUT_LIMIT: u64 = 1 << 60;
 /// A call asks the source for at most so many bytes.
 pub const MOST_PIECE_BYTES: usize = 8192;
 
-// The reply to a last line without a line feed, and the end.
-fn last_text(
+// The reply to a last line without a line feed, and the end. Nothing was gathered before it, so nothing goes out.
+fn last_text<O: Sink>(
     session: &mut Session,
     reader: &mut LineReader,
     text: &mut Vec<u8>,
-) -> Result<(), AllocError>
+    out: &mut O,
+) -> Result<(), FeedFault>
     requires { (t : Talk) × (part : List ℕ) × Between session.old reader.old t part × (t.state.count < MOST_COPIES) }
-    ensures { (t : Talk) (part : List ℕ) → Between session.old reader.old t part
+    ensures text { (t : Talk) (part : List ℕ) → Between session.old reader.old t part
         → OnOk result (text.new.items ≡ tail t part) }
+    ensures unsent { O.got out.new ≡ O.got out.old }
+    ensures write { IsErrOf result FeedFault.Write → Rose (O.faults out.old) (O.faults out.new) }
+    ensures memory { IsErrOf result FeedFault.Memory → O.faults out.new ≡ O.faults out.old }
+    ensures count { OnOk result (O.faults out.new ≡ O.faults out.old) }
 {
     text.clear();
     match reader.finish() {
         Some(line) => {
-            session.answer(line, text)?;
-            session.close(text)
+            session.answer(line, text, out)?;
+            session.close(text)?;
+            Ok(())
         }
-        None => session.close(text),
+        None => {
+            session.close(text)?;
+            Ok(())
+        }
     }
 }
 
@@ -81,7 +91,11 @@ fn finish<O: Sink>(
     ensures read { IsErrOf result ServeFault.Read → ⊥ }
     ensures too_long { IsErrOf result ServeFault.TooLong → ⊥ }
 {
-    last_text(session, reader, text)?;
+    match last_text(session, reader, text, out) {
+        Ok(()) => {}
+        Err(FeedFault::Memory) => return Err(ServeFault::Memory),
+        Err(FeedFault::Write) => return Err(ServeFault::Write),
+    }
     match write_whole(out, text) {
         Ok(()) => Ok(()),
         Err(Failed) => Err(ServeFault::Write),

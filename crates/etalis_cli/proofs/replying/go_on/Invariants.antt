@@ -2,7 +2,7 @@ use Rattle.std.proofs.Common.{ℕ, ◌≡◌, true}
 use Rattle.event_model.specs.Presence.{History}
 use Rattle.event_model.specs.declared.inputs.Input.{Input}
 use Rattle.etalis_core.specs.StandsFor.{WorksFrom, rules_of, late_of, is_working, work_left}
-use Rattle.etalis_cli.proofs.replying.finish.Given as goal
+use Rattle.etalis_cli.proofs.replying.go_on.Given as goal
 
 abbrev pub invariant-loop : goal.invariant-loop
 invariant-loop l = record {
