@@ -7,22 +7,22 @@ use std::test::Fail;
 
 pub(crate) const AB: &[u8] = b"ab(X) <- a(X) SEQ b(X).\n";
 
-// Which calls of the objects fail, and in which pieces the input comes.
+// Which call of each object fails, counted from 1, where 0 is none; and in which pieces the input comes.
 #[derive(Clone, Copy)]
 pub(crate) struct Setting<'a> {
     pub(crate) pieces: &'a [usize],
-    pub(crate) shelf_fails: &'a [u64],
-    pub(crate) input_fails: &'a [u64],
-    pub(crate) out_fails: &'a [u64],
-    pub(crate) notes_fail: &'a [u64],
+    pub(crate) shelf_fails: u64,
+    pub(crate) input_fails: u64,
+    pub(crate) out_fails: u64,
+    pub(crate) notes_fail: u64,
 }
 
 pub(crate) const CALM: Setting<'static> = Setting {
     pieces: &[],
-    shelf_fails: &[],
-    input_fails: &[],
-    out_fails: &[],
-    notes_fail: &[],
+    shelf_fails: 0,
+    input_fails: 0,
+    out_fails: 0,
+    notes_fail: 0,
 };
 
 // What a run over memory leaves.
@@ -52,14 +52,14 @@ pub(crate) fn run_over(
     let file = (String::from_str(alloc, "r")?, rules.to_vec(alloc)?);
     let mut files = Vec::new(alloc);
     files.push(file)?;
-    let mut shelf = MemShelf::new(files, setting.shelf_fails.to_vec(alloc)?);
+    let mut shelf = MemShelf::new(files, [setting.shelf_fails].to_vec(alloc)?);
     let mut source = MemSource::new(
         input.to_vec(alloc)?,
         setting.pieces.to_vec(alloc)?,
-        setting.input_fails.to_vec(alloc)?,
+        [setting.input_fails].to_vec(alloc)?,
     );
-    let mut out = MemSink::new(alloc, 131_072, setting.out_fails.to_vec(alloc)?)?;
-    let mut notes = MemSink::new(alloc, 4096, setting.notes_fail.to_vec(alloc)?)?;
+    let mut out = MemSink::new(alloc, 131_072, [setting.out_fails].to_vec(alloc)?)?;
+    let mut notes = MemSink::new(alloc, 4096, [setting.notes_fail].to_vec(alloc)?)?;
     let status = run(alloc, &words, &mut shelf, &mut source, &mut out, &mut notes);
     Ok(Ran { status, out, notes })
 }

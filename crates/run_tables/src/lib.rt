@@ -8,6 +8,8 @@ mod failing;
 #[cfg(test)]
 mod fixtures;
 #[cfg(test)]
+mod limits;
+#[cfg(test)]
 mod modes;
 pub mod paths;
 #[cfg(test)]

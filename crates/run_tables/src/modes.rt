@@ -134,7 +134,7 @@ fn some_modes_leave_the_source_alone(rt: HostRuntime) -> Result<(), Fail> {
     ];
     for row in rows {
         let setting = Setting {
-            input_fails: &[1],
+            input_fails: 1,
             ..CALM
         };
         let ran = run_over(rt.alloc(), row.0, AB_ANY, b"+ 1 a(7)\n", setting)?;
@@ -147,12 +147,12 @@ fn some_modes_leave_the_source_alone(rt: HostRuntime) -> Result<(), Fail> {
 // An output that fails before anything went out, and behind the first refusal.
 #[test]
 fn every_mode_tells_a_failed_output(rt: HostRuntime) -> Result<(), Fail> {
-    let rows: [(&[&str], &[u64], &[u8]); 5] = [
-        (&["held", "r"], &[2], b"no 1 syntax 0\n"),
-        (&["scratch", "r"], &[1], b""),
-        (&["scratch", "r"], &[2], b"no 1 syntax 0\n"),
-        (&["check", "r"], &[1], b""),
-        (&["drill", "r", "--lines", "4"], &[1], b""),
+    let rows: [(&[&str], u64, &[u8]); 5] = [
+        (&["held", "r"], 2, b"no 1 syntax 0\n"),
+        (&["scratch", "r"], 1, b""),
+        (&["scratch", "r"], 2, b"no 1 syntax 0\n"),
+        (&["check", "r"], 1, b""),
+        (&["drill", "r", "--lines", "4"], 1, b""),
     ];
     for row in rows {
         let setting = Setting {
@@ -358,14 +358,14 @@ fn a_drill_counts_what_comes_and_goes(rt: HostRuntime) -> Result<(), Fail> {
     let Ok(rules) = parse(rt.alloc(), WITHIN) else {
         return Err(Fail::new("no rules"));
     };
-    let lines = drill_lines(rt.alloc(), &rules, 7, 300)?;
+    let lines = drill_lines(rt.alloc(), &rules, 7, 120)?;
     let Ok(rules) = check(rt.alloc(), rules) else {
         return Err(Fail::new("no sound rules"));
     };
     let held = most_held(rt.alloc(), WITHIN.as_bytes(), &lines)?;
-    let wanted = drilled(rt.alloc(), &rules, &lines, 300, held)?;
+    let wanted = drilled(rt.alloc(), &rules, &lines, 120, held)?;
     let words = [
-        "drill", "r", "--late", "10", "--lines", "300", "--seed", "7",
+        "drill", "r", "--late", "10", "--lines", "120", "--seed", "7",
     ];
     for _time in 0..2 {
         writes(&rt, &words, WITHIN.as_bytes(), b"", &wanted)?;

@@ -198,20 +198,6 @@ fn batches_are_one_step(rt: HostRuntime) -> Result<(), Fail> {
     Ok(())
 }
 
-// A rule file of one byte more than may be.
-#[test]
-fn a_rule_file_is_too_long(rt: HostRuntime) -> Result<(), Fail> {
-    let file = vec![in rt.alloc(); b' '; 1_048_577]?;
-    let ran = run_over(rt.alloc(), &["run", "r"], &file, b"+ 1 a(7)\n", CALM)?;
-    assert_eq!(rt; ran.status, Status::RulesRefused);
-    assert_eq!(rt; ran.out.bytes(), b"".as_slice());
-    assert_eq!(rt;
-        ran.notes.bytes(),
-        b"etalis: rules: over 1048576 bytes\n".as_slice()
-    );
-    Ok(())
-}
-
 #[test]
 fn bytes_come_one_at_a_time(rt: HostRuntime) -> Result<(), Fail> {
     let setting = Setting {
@@ -226,20 +212,6 @@ fn bytes_come_one_at_a_time(rt: HostRuntime) -> Result<(), Fail> {
         b"ok 1\n+ 1 5 n(7)\nok 2\n- 1 5 n(7)\nok 3\n+ 1 5 n(7)\nok 4\nend 4\n".as_slice()
     );
     Ok(())
-}
-
-// Two lines, the first of 65,537 bytes.
-#[test]
-fn a_line_is_too_long(rt: HostRuntime) -> Result<(), Fail> {
-    let mut input = vec![in rt.alloc(); b'#'; 65537]?;
-    input.extend_from_slice(b"\n+ 1 a(7)\n")?;
-    writes(
-        &rt,
-        &["run", "r"],
-        AB,
-        &input,
-        b"no 1 syntax 65536\nok 2\nend 2\n",
-    )
 }
 
 // Each pattern, over added events.
@@ -334,68 +306,60 @@ fn pieces_make_no_difference(rt: HostRuntime) -> Result<(), Fail> {
 // The first run above, with a source, an output, a shelf or notes of which one call fails.
 #[test]
 fn each_fault_has_its_status_and_note(rt: HostRuntime) -> Result<(), Fail> {
-    let none: &[u64] = &[];
-    let rows: [(&[u64], &[u64], &[u64], Status, &[u8], &[u8]); 8] = [
+    let rows: [(u64, u64, u64, Status, &[u8], &[u8]); 8] = [
         (
-            &[1],
-            none,
-            none,
+            1,
+            0,
+            0,
             Status::ReadFault,
             b"",
             b"etalis: cannot read rules\n",
         ),
         (
-            &[2],
-            none,
-            none,
+            2,
+            0,
+            0,
             Status::ReadFault,
             b"",
             b"etalis: cannot read rules\n",
         ),
         (
-            none,
-            &[1],
-            none,
+            0,
+            1,
+            0,
             Status::ReadFault,
             b"",
             b"etalis: cannot read input\n",
         ),
         (
-            none,
-            &[2],
-            none,
+            0,
+            2,
+            0,
             Status::ReadFault,
             b"ok 1\n",
             b"etalis: cannot read input\n",
         ),
         (
-            none,
-            &[3],
-            none,
+            0,
+            3,
+            0,
             Status::ReadFault,
             b"ok 1\n+ 1 2 ab(7)\nok 2\n",
             b"etalis: cannot read input\n",
         ),
+        (0, 0, 1, Status::WriteFault, b"", b"etalis: cannot write\n"),
         (
-            none,
-            none,
-            &[1],
-            Status::WriteFault,
-            b"",
-            b"etalis: cannot write\n",
-        ),
-        (
-            none,
-            none,
-            &[2],
+            0,
+            0,
+            2,
             Status::WriteFault,
             b"ok 1\n",
             b"etalis: cannot write\n",
         ),
         (
-            none,
-            none,
-            &[3],
+            0,
+            0,
+            3,
             Status::WriteFault,
             b"ok 1\n+ 1 2 ab(7)\nok 2\n",
             b"etalis: cannot write\n",
@@ -520,17 +484,5 @@ fn refusals_write_nothing_but_their_note(rt: HostRuntime) -> Result<(), Fail> {
         assert_eq!(rt; ran.out.bytes(), b"".as_slice());
         assert_eq!(rt; ran.notes.bytes(), row.3);
     }
-    Ok(())
-}
-
-#[test]
-fn failing_notes_change_no_status(rt: HostRuntime) -> Result<(), Fail> {
-    let setting = Setting {
-        notes_fail: &[1],
-        ..CALM
-    };
-    let ran = run_over(rt.alloc(), &["walk"], AB, b"", setting)?;
-    assert_eq!(rt; ran.status, Status::Usage);
-    assert_eq!(rt; ran.notes.bytes(), b"".as_slice());
     Ok(())
 }
