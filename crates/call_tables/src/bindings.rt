@@ -2,7 +2,7 @@
 use crate::fixtures::{atom, pattern};
 use ev_bind::{Binding, Row, cmp_rows, instance_atom, instance_of, match_atom};
 use event_model::{Pat, Slot, Slots, Span, Term};
-use std::alloc::{AllocError, Global};
+use std::alloc::Global;
 use std::test::Fail;
 
 fn is_number(term: &Term, value: i64) -> bool {
@@ -36,70 +36,44 @@ fn single(alloc: Global, slot: Slot, value: i64) -> Result<Binding, Fail> {
 }
 
 #[test]
-fn bindings_grow(rt: HostRuntime) -> Result<(), Fail> {
+fn bindings_grow_and_merge(rt: HostRuntime) -> Result<(), Fail> {
     let alloc = rt.alloc();
     let first = single(alloc, Slot::new(0), 1)?;
-    assert!(rt; has_pairs(&first, &[(0, 1)]));
-    assert!(rt; has_pairs(&first.share()?, &[(0, 1)]));
+    assert!(rt; has_pairs(&first, &[(0, 1)]) && has_pairs(&first.share()?, &[(0, 1)]));
     assert!(rt; first.extend(alloc, Slot::new(0), &Term::Num(2))?.is_none());
     assert!(rt; matches!(first.get(Slot::new(0)), Some(Term::Num(1))));
     assert!(rt; first.get(Slot::new(1)).is_none());
-    Ok(())
-}
-
-#[test]
-fn bindings_merge(rt: HostRuntime) -> Result<(), Fail> {
-    let alloc = rt.alloc();
-    let first = single(alloc, Slot::new(0), 1)?;
     let second = single(alloc, Slot::new(1), 2)?;
     let both = first.merge(alloc, &second)?.ok_or("both")?;
     assert!(rt; has_pairs(&both, &[(0, 1), (1, 2)]));
     let slots = Slots::empty().add(Slot::new(1));
     assert!(rt; has_pairs(&both.project(alloc, &slots)?, &[(1, 2)]));
     assert!(rt; both.same_on(&second, &slots) && !both.same_on(&first, &slots));
-    Ok(())
-}
-
-#[test]
-fn rows_come_by_span(rt: HostRuntime) -> Result<(), Fail> {
     let row = Row {
-        binding: single(rt.alloc(), Slot::new(0), 1)?,
+        binding: both,
         span: Span::new(1, 2),
     };
     let later = Row {
-        binding: Binding::empty(),
+        binding: first,
         span: Span::new(1, 3),
     };
-    assert!(rt; cmp_rows(&row.share()?, &row).is_eq());
-    assert!(rt; row < later);
+    assert!(rt; cmp_rows(&row.share()?, &row).is_eq() && row < later);
     Ok(())
 }
 
 #[test]
-fn atoms_match(rt: HostRuntime) -> Result<(), Fail> {
+fn atoms_match_and_have_instances(rt: HostRuntime) -> Result<(), Fail> {
     let alloc = rt.alloc();
     let atom = atom(alloc, "a", &[1, 2])?;
-    let zero = Some(Slot::new(0));
-    let twice = pattern(alloc, "a", &[zero, zero])?;
+    let zero = Slot::new(0);
+    let twice = pattern(alloc, "a", &[Some(zero), Some(zero)])?;
     assert!(rt; match_atom(alloc, &twice, &atom)?.is_none());
-    let once = pattern(alloc, "a", &[zero, None])?;
+    let once = pattern(alloc, "a", &[Some(zero), None])?;
     let binding = match_atom(alloc, &once, &atom)?.ok_or("once")?;
     assert!(rt; has_pairs(&binding, &[(0, 1)]));
-    Ok(())
-}
-
-#[test]
-fn values_take_the_place_of_variables(rt: HostRuntime) -> Result<(), Fail> {
-    let alloc = rt.alloc();
-    let zero = Slot::new(0);
-    let binding = single(alloc, zero, 1)?;
-    let made = instance_atom(
-        alloc,
-        &pattern(alloc, "a", &[Some(zero), Some(zero)])?,
-        &binding,
-    )?;
+    // Values take the place of variables.
+    let made = instance_atom(alloc, &twice, &binding)?;
     assert!(rt; matches!(made.args.as_slice(), [Term::Num(1), Term::Num(1)]));
-    let value = instance_of(alloc, &Pat::Var(zero), &binding)?;
-    assert!(rt; is_number(&value, 1));
+    assert!(rt; is_number(&instance_of(alloc, &Pat::Var(zero), &binding)?, 1));
     Ok(())
 }

@@ -3,6 +3,7 @@ ghost use Rattle.std.specs.Prelude.{IfOk};
 ghost use Rattle.rule_ast.specs.Plain.{plain_rules};
 ghost use Rattle.rule_check.specs.Verdict.{IsSound};
 
+use ev_bind::{Binding, Row};
 use event_model::{Atom, Event, Name, Pat, PatAtom, Pats, Slot, Span, TIME_LIMIT, Term, Terms};
 use rule_check::{Checked, check};
 use rule_parser::parse;
@@ -56,6 +57,18 @@ pub(crate) fn event(
     })
 }
 
+// A row that binds X to 7.
+pub(crate) fn row(alloc: Global, start: u64, end: u64) -> Result<Row, Fail> {
+    if start > end || end >= TIME_LIMIT {
+        return Err(Fail::new("no span"));
+    }
+    let binding = Binding::empty().extend(alloc, Slot::new(0), &Term::Num(7))?;
+    Ok(Row {
+        binding: binding.ok_or("a binding")?,
+        span: Span::new(start, end),
+    })
+}
+
 // The rules of a text that is sound.
 pub(crate) fn checked(alloc: Global, text: &str) -> Result<Checked, Fail>
     ensures { IfOk result (λ c. IsSound (plain_rules c)) }
@@ -65,4 +78,20 @@ pub(crate) fn checked(alloc: Global, text: &str) -> Result<Checked, Fail>
     }
     let rules = parse(alloc, text)?;
     Ok(check(alloc, rules)?)
+}
+
+// A text with a part so many times.
+pub(crate) fn repeated(
+    alloc: Global,
+    front: &str,
+    part: &str,
+    count: usize,
+    back: &str,
+) -> Result<String, AllocError> {
+    let mut text = String::from_str(alloc, front)?;
+    for _ in 0..count {
+        text.push_str(part)?;
+    }
+    text.push_str(back)?;
+    Ok(text)
 }

@@ -8,6 +8,8 @@ mod checks;
 #[cfg(test)]
 mod conditions;
 #[cfg(test)]
+mod counts;
+#[cfg(test)]
 mod finds;
 #[cfg(test)]
 mod fixtures;
@@ -21,6 +23,10 @@ mod reads;
 mod replies;
 #[cfg(test)]
 mod slots;
+#[cfg(test)]
+mod stores;
+#[cfg(test)]
+mod tables;
 #[cfg(test)]
 mod terms;
 #[cfg(test)]

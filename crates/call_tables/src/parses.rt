@@ -1,19 +1,17 @@
 // Texts, with what they hold or their fault.
-use event_model::Op;
-use rule_ast::{Pattern, Statement};
-use rule_parser::{ParseFault, parse};
+use crate::fixtures::repeated;
+use event_model::{Op, Slot, Slots};
+use rule_ast::{Pattern, Statement, vars_of};
+use rule_parser::parse;
 use std::alloc::{AllocError, Global};
 use std::test::Fail;
 
 // What a text gives, as one line: the number of its statements, or its fault.
-fn told(rt: &(impl AllocGlobal), text: &str) -> Result<String, Fail> {
-    let line = match parse(rt.alloc(), text) {
-        Ok(rules) => format!(in rt.alloc(); "{} statements", rules.statements.len())?,
-        Err(ParseFault::Syntax(at)) => format!(in rt.alloc(); "syntax at {at}")?,
-        Err(ParseFault::Limit(which, at)) => format!(in rt.alloc(); "limit {which:?} at {at}")?,
-        Err(ParseFault::Memory) => format!(in rt.alloc(); "memory")?,
-    };
-    Ok(line)
+fn told(alloc: Global, text: &str) -> Result<String, AllocError> {
+    match parse(alloc, text) {
+        Ok(rules) => format!(in alloc; "{} statements", rules.statements.len()),
+        Err(fault) => format!(in alloc; "{fault}"),
+    }
 }
 
 #[test]
@@ -40,35 +38,17 @@ fn texts_and_faults(rt: HostRuntime) -> Result<(), Fail> {
             "limit TermWidth at 45",
         ),
     ];
-    for row in table.iter() {
-        let line = told(&rt, row.0)?;
-        assert_eq!(rt; line.as_str(), row.1, "{}", row.0);
+    for (text, wanted) in table {
+        assert_eq!(rt; told(rt.alloc(), text)?.as_str(), wanted, "{text}");
     }
     Ok(())
-}
-
-// A text with a part so many times.
-fn repeated(
-    alloc: Global,
-    front: &str,
-    part: &str,
-    count: usize,
-    back: &str,
-) -> Result<String, AllocError> {
-    let mut text = String::from_str(alloc, front)?;
-    for _ in 0..count {
-        text.push_str(part)?;
-    }
-    text.push_str(back)?;
-    Ok(text)
 }
 
 // A rule with a variable in each of so many atoms.
 fn with_variables(alloc: Global, count: usize) -> Result<String, AllocError> {
     let mut text = String::from_str(alloc, "h <- a")?;
     for i in 0..count {
-        let part = format!(in alloc; " AND a(V{i})")?;
-        text.push_str(&part)?;
+        text.push_str(&format!(in alloc; " AND a(V{i})")?)?;
     }
     text.push_str(".")?;
     Ok(text)
@@ -84,28 +64,36 @@ fn each_limit_is_passed_at_its_place(rt: HostRuntime) -> Result<(), Fail> {
         ("h <- ", "(", 33, "a.", "limit Depth at 37"),
         ("h <- a(", "f(", 16, "x.", "limit TermDepth at 38"),
     ];
-    for row in table.iter() {
-        let text = repeated(rt.alloc(), row.0, row.1, row.2, row.3)?;
-        let line = told(&rt, &text)?;
-        assert_eq!(rt; line.as_str(), row.4);
+    for (front, part, count, back, wanted) in table {
+        let text = repeated(rt.alloc(), front, part, count, back)?;
+        assert_eq!(rt; told(rt.alloc(), &text)?.as_str(), wanted);
     }
-    let most = told(&rt, &with_variables(rt.alloc(), 64)?)?;
-    assert_eq!(rt; most.as_str(), "1 statements");
-    let over = told(&rt, &with_variables(rt.alloc(), 65)?)?;
-    assert_eq!(rt; over.as_str(), "limit Variables at 707");
+    for (count, wanted) in [(64, "1 statements"), (65, "limit Variables at 707")] {
+        let text = with_variables(rt.alloc(), count)?;
+        assert_eq!(rt; told(rt.alloc(), &text)?.as_str(), wanted);
+    }
     Ok(())
 }
 
+// The variables of a negation are those of its start and end patterns.
 #[test]
-fn a_rule_is_parsed(rt: HostRuntime) -> Result<(), Fail> {
-    let rules = parse(rt.alloc(), "ab(Y) <- a(X) SEQ b(X,Y).\nshow ab/1.")?;
-    assert_eq!(rt; rules.statements.len(), 2);
-    assert!(rt;
-        matches!(
-            &rules.statements[0],
-            Statement::Rule(rule) if rule.vars.len() == 2 && matches!(&rule.body, Pattern::Both(Op::Seq, _, _))
-        )
-    );
-    assert!(rt; matches!(&rules.statements[1], Statement::Show(_)));
-    Ok(())
+fn rules_have_their_variables(rt: HostRuntime) -> Result<(), Fail> {
+    let rules = parse(
+        rt.alloc(),
+        "ab(Y) <- a(X) SEQ b(X,Y).\nn <- NOT(c(Z)).[a(X),b(f(Y),_)].\nshow ab/1.",
+    )?;
+    match rules.statements.as_slice() {
+        [
+            Statement::Rule(both),
+            Statement::Rule(not),
+            Statement::Show(_),
+        ] => {
+            assert_eq!(rt; both.vars.len(), 2);
+            assert!(rt; matches!(&both.body, Pattern::Both(Op::Seq, _, _)));
+            let named = Slots::empty().add(Slot::new(1)).add(Slot::new(2));
+            assert!(rt; vars_of(&not.body) == named);
+            Ok(())
+        }
+        _ => Err(Fail::new("other statements")),
+    }
 }

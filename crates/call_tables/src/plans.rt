@@ -1,62 +1,70 @@
-// Plans of binary steps.
-use crate::fixtures::checked;
+// Plans of binary steps, and how long their rows count.
+use crate::fixtures::{checked, repeated};
 use binariser::{MOST_STEPS, PlanFault, binarise};
+use goal_purge::lengths;
+use row_changes::Reach;
 use rule_ast::Step;
 use std::alloc::{AllocError, Global};
 use std::test::Fail;
 
-// How many steps a plan has, and how many of them are of a NOT.
-fn steps(alloc: Global, text: &str) -> Result<(usize, usize), Fail> {
-    let plan = binarise(alloc, &checked(alloc, text)?)?;
-    let minuses = plan
-        .steps
-        .iter()
-        .filter(|step| matches!(step, Step::Minus { .. }))
-        .count();
-    Ok((plan.steps.len(), minuses))
+// Rules of 128 atoms, 255 of them, and one rule of so many more than one.
+fn great(alloc: Global, more: usize) -> Result<String, AllocError> {
+    let most = repeated(alloc, "a<-b", " AND b", 127, ".")?;
+    let last = repeated(alloc, "a<-b", " AND b", more, ".")?;
+    repeated(alloc, "", &most, 255, &last)
+}
+
+// How many steps a plan has, and how many of them are of a NOT; `None` where there are too many.
+fn steps(alloc: Global, text: &str) -> Result<Option<(usize, usize)>, Fail> {
+    match binarise(alloc, &checked(alloc, text)?) {
+        Err(PlanFault::TooMany) => Ok(None),
+        Err(PlanFault::Memory) => Err(Fail::new("no memory")),
+        Ok(plan) => {
+            let mut minuses: usize = 0;
+            for step in &plan.steps {
+                if matches!(step, Step::Minus { .. }) {
+                    minuses = minuses.saturating_add(1);
+                }
+            }
+            Ok(Some((plan.steps.len(), minuses)))
+        }
+    }
 }
 
 #[test]
 fn rules_become_steps(rt: HostRuntime) -> Result<(), Fail> {
-    let rows = [
-        ("ab(X) <- a(X) SEQ b(X).", 7, 0),
-        ("n <- NOT(c).[a,b].", 10, 1),
-    ];
-    for row in rows {
-        let (all, minuses) = steps(rt.alloc(), row.0)?;
-        assert_eq!(rt; all, row.1);
-        assert_eq!(rt; minuses, row.2);
-    }
+    let alloc = rt.alloc();
+    assert_eq!(rt; steps(alloc, "ab(X) <- a(X) SEQ b(X).")?, Some((7, 0)));
+    assert_eq!(rt; steps(alloc, "n <- NOT(c).[a,b].")?, Some((10, 1)));
+    assert_eq!(rt; steps(alloc, &great(alloc, 126)?)?, Some((MOST_STEPS, 0)));
+    assert_eq!(rt; steps(alloc, &great(alloc, 127)?)?, None);
     Ok(())
 }
 
-// Appends a rule of so many atoms.
-fn push_rule(text: &mut String, atoms: usize) -> Result<(), AllocError> {
-    text.push_str("a<-b")?;
-    for _ in 1..atoms {
-        text.push_str(" AND b")?;
+// The cap and the reach of the first atom in the body of these rules.
+fn first_lengths(alloc: Global, text: &str) -> Result<(Option<u64>, Reach), Fail> {
+    let rules = checked(alloc, text)?;
+    let plan = binarise(alloc, &rules)?;
+    let caps = lengths(alloc, &rules, &plan)?;
+    for (step, (cap, reach)) in plan
+        .steps
+        .iter()
+        .zip(caps.cap.iter().zip(caps.reach.iter()))
+    {
+        if matches!(step, Step::Leaf { .. }) {
+            return Ok((*cap, *reach));
+        }
     }
-    text.push_str(".")?;
-    Ok(())
-}
-
-// Rules of 128 atoms, so many, and one rule more of so many atoms.
-fn great(alloc: Global, rules: usize, atoms: usize) -> Result<String, AllocError> {
-    let mut text = String::new(alloc);
-    for _ in 0..rules {
-        push_rule(&mut text, 128)?;
-    }
-    push_rule(&mut text, atoms)?;
-    Ok(text)
+    Err(Fail::new("no atom"))
 }
 
 #[test]
-fn a_plan_has_at_most_so_many_steps(rt: HostRuntime) -> Result<(), Fail> {
-    let most = great(rt.alloc(), 255, 127)?;
-    let (all, _) = steps(rt.alloc(), &most)?;
-    assert_eq!(rt; all, MOST_STEPS);
-    let over = great(rt.alloc(), 255, 128)?;
-    let refused = binarise(rt.alloc(), &checked(rt.alloc(), &over)?);
-    assert!(rt; matches!(refused, Err(PlanFault::TooMany)));
+fn rows_count_as_long_as_their_rules_say(rt: HostRuntime) -> Result<(), Fail> {
+    let alloc = rt.alloc();
+    assert_eq!(rt;
+        first_lengths(alloc, "w <- (a SEQ b) WITHIN 4.")?,
+        (Some(4), Reach::Limit(4))
+    );
+    assert_eq!(rt; first_lengths(alloc, "w <- a SEQ b.")?, (None, Reach::Free));
     Ok(())
 }

@@ -5,44 +5,41 @@ use ev_term::{
     read_ground, term_text,
 };
 use event_model::{cmp_atoms, cmp_events, cmp_spans};
+use std::alloc::{AllocError, Global};
 use std::test::Fail;
 
-fn fault(fault: TermFault) -> (&'static str, usize) {
-    match fault {
+// Writes the word of a fault, and answers its place.
+fn fault(fault: TermFault, out: &mut Vec<u8>) -> Result<usize, AllocError> {
+    let (word, at) = match fault {
         TermFault::Syntax(at) => ("syntax", at),
         TermFault::TooDeep(at) => ("too deep", at),
         TermFault::TooWide(at) => ("too wide", at),
         TermFault::NumberRange(at) => ("number", at),
         TermFault::Memory => ("memory", 0),
-    }
+    };
+    out.extend_from_slice(word.as_bytes())?;
+    Ok(at)
 }
 
-// The canonical text of the term that is read, and where it ends; or the fault and its place.
-fn term(rt: &(impl AllocGlobal), bytes: &[u8]) -> Result<(String, usize), Fail> {
-    let mut out = Vec::new(rt.alloc());
-    match read_ground(rt.alloc(), bytes, 0) {
+// Writes the canonical text of the term that is read, and answers where it ends; or the fault and its place.
+fn term(alloc: Global, text: &str, out: &mut Vec<u8>) -> Result<usize, AllocError> {
+    match read_ground(alloc, text.as_bytes(), 0) {
         Ok((term, end)) => {
-            term_text(&term, &mut out)?;
-            Ok((String::from_utf8(out)?, end))
+            term_text(&term, out)?;
+            Ok(end)
         }
-        Err(why) => {
-            let (word, at) = fault(why);
-            Ok((String::from_str(rt.alloc(), word)?, at))
-        }
+        Err(why) => fault(why, out),
     }
 }
 
-fn atom_read(rt: &(impl AllocGlobal), bytes: &[u8]) -> Result<(String, usize), Fail> {
-    let mut out = Vec::new(rt.alloc());
-    match read_atom(rt.alloc(), bytes, 0) {
+// The same of an atom.
+fn atom_read(alloc: Global, text: &str, out: &mut Vec<u8>) -> Result<usize, AllocError> {
+    match read_atom(alloc, text.as_bytes(), 0) {
         Ok((atom, end)) => {
-            atom_text(&atom, &mut out)?;
-            Ok((String::from_utf8(out)?, end))
+            atom_text(&atom, out)?;
+            Ok(end)
         }
-        Err(why) => {
-            let (word, at) = fault(why);
-            Ok((String::from_str(rt.alloc(), word)?, at))
-        }
+        Err(why) => fault(why, out),
     }
 }
 
@@ -55,52 +52,39 @@ fn terms_are_read_and_written(rt: HostRuntime) -> Result<(), Fail> {
         ("f(1,)", "syntax", 4),
         ("f(1,2,3,4,5,6,7,8,9,1,2,3,4,5,6,7,8)", "too wide", 33),
     ];
-    for row in terms.iter() {
-        let (text, at) = term(&rt, row.0.as_bytes())?;
-        assert_eq!(rt; text.as_str(), row.1);
-        assert_eq!(rt; at, row.2);
+    for (text, wanted, place) in terms {
+        let mut out = Vec::new(rt.alloc());
+        assert_eq!(rt; term(rt.alloc(), text, &mut out)?, place);
+        assert_eq!(rt; out.as_slice(), wanted.as_bytes());
     }
     let atoms = [
         ("a(7)", "a(7)", 4),
         ("a", "a", 1),
         ("a(9223372036854775808)", "number", 20),
     ];
-    for row in atoms.iter() {
-        let (text, at) = atom_read(&rt, row.0.as_bytes())?;
-        assert_eq!(rt; text.as_str(), row.1);
-        assert_eq!(rt; at, row.2);
+    for (text, wanted, place) in atoms {
+        let mut out = Vec::new(rt.alloc());
+        assert_eq!(rt; atom_read(rt.alloc(), text, &mut out)?, place);
+        assert_eq!(rt; out.as_slice(), wanted.as_bytes());
     }
     Ok(())
 }
 
+// Events and detections come by atom first, and then by span.
 #[test]
-fn names_and_lists_are_shared(rt: HostRuntime) -> Result<(), Fail> {
-    let one = atom(rt.alloc(), "a", &[7])?;
-    let same = one.share()?;
-    assert!(rt; cmp_atoms(&same, &one).is_eq());
-    assert!(rt; same.name == one.name);
-    assert!(rt; matches!(same.args.as_slice(), [Term::Num(7)]));
-    Ok(())
-}
-
-#[test]
-fn values_have_orders(rt: HostRuntime) -> Result<(), Fail> {
+fn values_are_shared_and_have_orders(rt: HostRuntime) -> Result<(), Fail> {
     let alloc = rt.alloc();
+    let one = atom(alloc, "a", &[7])?;
+    let same = one.share()?;
+    assert!(rt; cmp_atoms(&same, &one).is_eq() && same.name == one.name);
+    assert!(rt; matches!(same.args.as_slice(), [Term::Num(7)]));
     let word = Term::Sym(Name::new(alloc, "x")?);
     assert!(rt; cmp_terms(&Term::Num(2), &Term::Num(10)).is_lt());
     assert!(rt; cmp_terms(&Term::Num(2), &word).is_lt());
     assert!(rt; cmp_spans(Span::new(1, 3), Span::new(1, 2)).is_gt());
-    Ok(())
-}
-
-// By atom first, and then by span.
-#[test]
-fn events_and_detections_come_by_atom(rt: HostRuntime) -> Result<(), Fail> {
-    let alloc = rt.alloc();
     let first = event(alloc, "a", &[], 3, 4)?;
     let second = event(alloc, "b", &[], 1, 2)?;
-    assert!(rt; cmp_events(&first, &second).is_lt());
-    assert_eq!(rt; first.time(), 4);
+    assert!(rt; cmp_events(&first, &second).is_lt() && first.time() == 4);
     let found = Detection {
         atom: first.atom,
         span: first.span,

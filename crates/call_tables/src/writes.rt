@@ -2,19 +2,11 @@
 use rule_parser::{parse, rules_text};
 use std::test::Fail;
 
-#[test]
-fn a_rule_is_read_and_written(rt: HostRuntime) -> Result<(), Fail> {
-    let rules = parse(rt.alloc(), "ab( X )<-a(X) SEQ b(X).")?;
-    assert_eq!(rt; rules.statements.len(), 1);
-    let text = rules_text(rt.alloc(), &rules)?;
-    assert_eq!(rt; text.as_slice(), b"ab(X) <- a(X) SEQ b(X).\n".as_slice());
-    Ok(())
-}
-
 // Bounds, a negated pattern, brackets round a right operand, and each level of a condition, with brackets and without.
 #[test]
 fn brackets_stand_where_they_must(rt: HostRuntime) -> Result<(), Fail> {
     let table = [
+        ("ab( X )<-a(X) SEQ b(X).", "ab(X) <- a(X) SEQ b(X).\n"),
         (
             "c<-((((a).3).4 WITHIN 5) OR NOT((a)).[b,(c SEQ d)]) AND (b AND c).",
             "c <- (a).3.4 WITHIN 5 OR NOT(a).[b,c SEQ d] AND (b AND c).\n",
@@ -25,10 +17,10 @@ fn brackets_stand_where_they_must(rt: HostRuntime) -> Result<(), Fail> {
         ),
         ("show ab/1,c/0 .", "show ab/1, c/0.\n"),
     ];
-    for row in table.iter() {
-        let rules = parse(rt.alloc(), row.0)?;
+    for (given, wanted) in table {
+        let rules = parse(rt.alloc(), given)?;
         let text = rules_text(rt.alloc(), &rules)?;
-        assert_eq!(rt; text.as_slice(), row.1.as_bytes(), "{}", row.0);
+        assert_eq!(rt; text.as_slice(), wanted.as_bytes(), "{given}");
     }
     Ok(())
 }

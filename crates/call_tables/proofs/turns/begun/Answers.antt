@@ -10,9 +10,6 @@ use Rattle.call_tables.proofs.turns.begun.Goals as goal
 abbrev Few : Engine → Type 0
 Few engine = (h : History) × StandsFor engine h × (length (all_inputs h) < MOST_COPIES)
 
-first : (engine : Engine) → StandsFor engine no_history → Few engine
-first engine s = (no_history, s, omega arith)
-
 second : (engine : Engine) (a : Event) → StandsFor engine (extended no_history (Add a)) → Few engine
 second engine a s = (extended no_history (Add a), s, omega arith)
 
@@ -20,10 +17,7 @@ third : (engine : Engine) (a b : Event) → StandsFor engine (extended (extended
 third engine a b s = (extended (extended no_history (Add a)) (Add b), s, omega arith)
 
 pub add-requires : goal.add-requires
-add-requires c = first _ c.in_ok-engine.ensures.stands
-
-pub add-requires-2 : goal.add-requires-2
-add-requires-2 c = second _ _ (c.in_ok-add.ensures no_history c.in_ok-engine.ensures.stands)
+add-requires c = second _ _ c.in_ok-engine.ensures
 
 pub begin_adding-requires : goal.begin_adding-requires
-begin_adding-requires c = third _ _ _ (c.in_ok-add-2.ensures _ (c.in_ok-add.ensures no_history c.in_ok-engine.ensures.stands))
+begin_adding-requires c = third _ _ _ (c.in_ok-add.ensures _ c.in_ok-engine.ensures)
