@@ -1,5 +1,5 @@
 -- What a text holds, when an engine may begin, and what a report leaves.
-use Rattle.std.proofs.Common.{◌≡◌, ◌≢◌, ℕ, ◌+◌, ◌≤◌, ◌<◌, ◌&&◌, not, Bool, true, false, Err, Option, Some, List, length, map, refl, sym, ap, ◌∙◌, subst, arith}
+use Rattle.std.proofs.Common.{◌≡◌, ◌≢◌, ℕ, ◌+◌, ◌≤◌, ◌<◌, ◌&&◌, not, Bool, true, false, Err, Option, List, length, map, refl, sym, ap, ◌∙◌, subst, arith}
 use Rattle.std.specs.List.{flat_map}
 use Rattle.ordered_lists.specs.Canon.{Rising, Rising-canon}
 use Rattle.event_model.specs.EventOrder.{detection_cmp, exact_detections}

@@ -1,5 +1,4 @@
 use Rattle.std.proofs.Common.{◌≡◌, true, false, inr, refl, sym, ap, ◌∙◌, subst, arith}
-use Rattle.event_model.specs.declared.inputs.Judgement.TheVariants.{Fine}
 use Rattle.pattern_meaning.specs.Replies.{Change, change_by, standing_after}
 use Rattle.etalis_core.specs.StandsFor.{rules_of, last_change}
 use Rattle.parcel_watch.specs.Watches.{Watches}
