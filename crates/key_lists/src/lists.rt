@@ -1,13 +1,15 @@
 // Rising lists under numbers.
-ghost use Rattle.std.specs.Prelude.{◌≡◌, ◌≢◌, [], ℕ, not, OnOk, OnErr, IfOk};
+ghost use Rattle.std.specs.Prelude.{◌≡◌, ◌≢◌, [], ℕ, not, OnOk, OnErr};
 ghost use Rattle.std.specs.List.{filter};
 ghost use Rattle.std.specs.Ordering.{is_eq};
-ghost use Rattle.ordered_lists.specs.Canon.{has, place, Rising, Exact};
+ghost use Rattle.ordered_lists.specs.Canon.{place, Exact};
 ghost use Rattle.key_lists.specs.Lists.{list_in, InOrder};
+ghost use Rattle.key_lists.specs.Pieces.{all_lent, IsRun};
 
-use crate::groups::{Probe, remove_like, remove_unique};
-use crate::slack::{trim_list, trim_lists};
-use ordered_lists::insert_unique;
+use crate::groups::Probe;
+use crate::pieces::Pieces;
+use crate::runs::Run;
+use crate::slack::trim_lists;
 use std::alloc::{AllocError, Global};
 use std::collections::HashMap;
 
@@ -15,7 +17,7 @@ use std::collections::HashMap;
 #[derive(Drop)]
 pub struct KeyLists<T: Ord + Drop> {
     alloc: Global,
-    lists: HashMap<u64, Vec<T>>,
+    lists: HashMap<u64, Pieces<T>>,
 }
 
 impl<T: Ord + Drop> KeyLists<T> {
@@ -30,57 +32,23 @@ impl<T: Ord + Drop> KeyLists<T> {
     }
 
     /// The list under a number.
-    pub fn items(&self, key: u64) -> &[T]
-        ensures { result.now ≡ list_in self.now key }
+    pub fn run(&self, key: u64) -> Run<'_, T>
+        ensures all { all_lent result ≡ list_in self.now key }
+        ensures run { InOrder T.cmp self.now → IsRun T.cmp result }
     {
-        match self.lists.get(&key) {
+        let pieces = self.lists.get(&key);
+        let first = match pieces {
             None => &[],
-            Some(items) => items.as_slice(),
-        }
-    }
-
-    // The same without the order of the other lists.
-    fn put(&mut self, key: u64, item: T) -> Result<(), AllocError>
-        requires exact { Exact T.cmp }
-        requires rising { InOrder T.cmp self.old }
-        ensures placed { OnOk result (list_in self.new key ≡ place T.cmp item (list_in self.old key)) }
-        ensures others { (h : ℕ) → h ≢ key → list_in self.new h ≡ list_in self.old h }
-        ensures err { OnErr result (list_in self.new key ≡ list_in self.old key) }
-    {
-        match self.lists.get_mut(&key) {
-            Some(items) => {
-                insert_unique(items, item)?;
-            }
-            None => {
-                let mut items = Vec::new(self.alloc);
-                items.push(item)?;
-                self.lists.insert(key, items)?;
-            }
-        }
-        Ok(())
-    }
-
-    // The same without the order of the other lists.
-    fn cut(&mut self, key: u64, item: &T)
-        requires exact { Exact T.cmp }
-        requires rising { InOrder T.cmp self.old }
-        ensures rest { list_in self.new key ≡ filter (λ x. not (is_eq (T.cmp item.now x))) (list_in self.old key) }
-        ensures others { (h : ℕ) → h ≢ key → list_in self.new h ≡ list_in self.old h }
-    {
-        let mut empty = false;
-        if let Some(items) = self.lists.get_mut(&key) {
-            remove_unique(items, item);
-            trim_list(items);
-            empty = items.is_empty();
-        }
-        if empty {
-            self.lists.remove(&key);
-            trim_lists(&mut self.lists);
-        }
+            Some(pieces) => pieces.first.as_slice(),
+        };
+        let more = match pieces {
+            None => &[],
+            Some(pieces) => pieces.more.as_slice(),
+        };
+        Run { first, more }
     }
 
     /// Puts an element at its place in the list under a number, where it isn't there yet.
-    #[tactic(auto, using(crate::proofs::Kept::rising_after_put))]
     pub fn insert(&mut self, key: u64, item: T) -> Result<(), AllocError>
         requires exact { Exact T.cmp }
         requires rising { InOrder T.cmp self.old }
@@ -89,37 +57,17 @@ impl<T: Ord + Drop> KeyLists<T> {
         ensures err { OnErr result (list_in self.new key ≡ list_in self.old key) }
         ensures rising { InOrder T.cmp self.new }
     {
-        self.put(key, item)
-    }
-
-    /// Takes an element out of the list under a number.
-    pub fn remove(&mut self, key: u64, item: &T)
-        requires exact { Exact T.cmp }
-        requires rising { InOrder T.cmp self.old }
-        ensures rest { list_in self.new key ≡ filter (λ x. not (is_eq (T.cmp item.now x))) (list_in self.old key) }
-        ensures others { (h : ℕ) → h ≢ key → list_in self.new h ≡ list_in self.old h }
-        ensures rising { InOrder T.cmp self.new }
-    {
-        self.cut(key, item);
-    }
-
-    // The same without the order of the other lists.
-    fn cut_like<P: Probe<T>>(&mut self, key: u64, probe: &P)
-        requires exact { Exact T.cmp }
-        requires rising { InOrder T.cmp self.old }
-        ensures rest { list_in self.new key ≡ filter (λ x. not (is_eq (T.cmp (P.like probe.now) x))) (list_in self.old key) }
-        ensures others { (h : ℕ) → h ≢ key → list_in self.new h ≡ list_in self.old h }
-    {
-        let mut none_left = false;
-        if let Some(items) = self.lists.get_mut(&key) {
-            remove_like(items, probe);
-            trim_list(items);
-            none_left = items.is_empty();
+        match self.lists.get_mut(&key) {
+            Some(pieces) => {
+                pieces.insert(item)?;
+            }
+            None => {
+                let mut pieces = Pieces::new(self.alloc);
+                pieces.insert(item)?;
+                self.lists.insert(key, pieces)?;
+            }
         }
-        if none_left {
-            self.lists.remove(&key);
-            trim_lists(&mut self.lists);
-        }
+        Ok(())
     }
 
     /// Takes the element that a probe stands for out of the list under a number.
@@ -130,6 +78,14 @@ impl<T: Ord + Drop> KeyLists<T> {
         ensures others { (h : ℕ) → h ≢ key → list_in self.new h ≡ list_in self.old h }
         ensures rising { InOrder T.cmp self.new }
     {
-        self.cut_like(key, probe);
+        let mut none_left = false;
+        if let Some(pieces) = self.lists.get_mut(&key) {
+            pieces.remove_like(probe);
+            none_left = pieces.is_empty();
+        }
+        if none_left {
+            self.lists.remove(&key);
+            trim_lists(&mut self.lists);
+        }
     }
 }

@@ -2,6 +2,7 @@
 ghost use Rattle.std.specs.Prelude.{◌≡◌, ◌==◌, ℕ};
 ghost use Rattle.std.specs.HashMap.{get};
 
+use crate::pieces::Pieces;
 use std::collections::HashMap;
 
 // Room for so few is kept in any case.
@@ -23,7 +24,7 @@ pub(crate) fn trim_list<T>(items: &mut Vec<T>)
 }
 
 /// Gives room for lists back where little is in use.
-pub(crate) fn trim_lists<T>(lists: &mut HashMap<u64, Vec<T>>)
+pub(crate) fn trim_lists<T>(lists: &mut HashMap<u64, Pieces<T>>)
     ensures { (h : ℕ) → get ◌==◌ lists.new h ≡ get ◌==◌ lists.old h }
 {
     let held = lists.len();
