@@ -1,17 +1,18 @@
 -- Walks that begin in a store: the list of an index for a key, and where a range or a cursor begins in it.
-use Rattle.std.proofs.Common.{ℕ, zero, suc, ◌≡◌, ◌<◌, ◌&&◌, Bool, true, false, not, cond, List, [], ◌∷◌, length, map, drop, get_or, Option, Some, None, refl, ap, sym, ◌∙◌, subst, arith, nat_le, nat_lt}
+use Rattle.std.proofs.Common.{ℕ, zero, suc, ◌≡◌, ◌<◌, ◌&&◌, Bool, true, false, not, cond, List, [], ◌∷◌, length, map, get_or, Option, Some, None, refl, ap, sym, ◌∙◌, subst, arith, nat_le, nat_lt}
 use Rattle.std.specs.List.{filter, slice_get}
 use Rattle.std.specs.Option.{option_map, option_map_or, option_and_then, is_some}
 use Rattle.std.specs.Ordering.{is_lt}
-use Rattle.std.specs.Cmp.{tied_itself}
 use Rattle.std.proofs.Math.Bool.{and-false}
 use Rattle.std.proofs.lemmas.Bool.{false_from_ne_true, and_parts, ltb-true, ltb-false, lt-ltb, le-leb}
-use Rattle.std.proofs.lemmas.Option.{slice_get-map, slice_get_within, slice_get_read, slice_get_past, get_or_from_slice_get}
+use Rattle.std.proofs.lemmas.Option.{slice_get-map, slice_get_within, slice_get_read, slice_get_past}
 use Rattle.ordered_lists.specs.Canon.{canon, has, Rising, filter-canon}
 use Rattle.ordered_lists.specs.Lists.{Each}
 use Rattle.ordered_lists.specs.Members.{filter_agree}
 use Rattle.key_lists.specs.Lists.{list_in}
-use Rattle.key_lists.proofs.Places.{at_found}
+use Rattle.key_lists.specs.Pieces.{all_lent, left, IsRun}
+use Rattle.key_lists.specs.declared.runs.Position.{Position}
+use Rattle.key_lists.specs.declared.runs.Run.{Run}
 use Rattle.event_model.specs.declared.operators.Edge.{Edge}
 use Rattle.interval_ops.specs.Operators.{edge_of}
 use Rattle.interval_ops.specs.declared.ranges.Range.{Range}
@@ -27,7 +28,7 @@ use Rattle.goal_store.specs.Fits.{SlotsFit}
 use Rattle.goal_store.specs.Goals.{rest, from_row, seen, row_at, indexes_of}
 use Rattle.goal_store.specs.Good.{held_by}
 use Rattle.goal_store.specs.Indexed.{stands}
-use Rattle.goal_store.specs.Places.{place_cmp, place_at, least_at, exact_places}
+use Rattle.goal_store.specs.Places.{place_cmp, place_at, least_at}
 use Rattle.goal_store.specs.Steps.{kind}
 use Rattle.goal_store.specs.Walked.{IsWalk}
 use Rattle.goal_store.specs.Walks.{rows_left, shows}
@@ -38,7 +39,7 @@ use Rattle.goal_store.specs.declared.marks.When.{When}
 use Rattle.goal_store.specs.declared.places.Place.{Place}
 use Rattle.goal_store.specs.declared.steps.StepPlaces.{StepPlaces}
 use Rattle.goal_store.specs.declared.walks.RowsFrom.{RowsFrom}
-use Rattle.goal_store.proofs.Standing.{rest_is, index_of, has_at}
+use Rattle.goal_store.proofs.Standing.{rest_is, index_of, has_at, upward}
 use Rattle.goal_store.proofs.Walking.{each_map, exact_edges, listed_place, shown_listed, shown_rows, filter_turn, filter_twice, from_time}
 use Rattle.goal_store.proofs.Walking.{shown_from as rows_from_place}
 
@@ -90,12 +91,12 @@ module _ (g : GoalStore) (index : ℕ) (x : Index) (at : slice_get g.indexes.ite
     pub index_there : slice_get p.indexes.items k ≡ None → ⊥
     index_there none = none_some (x.key, x.edge) (sym (ap (option_map kind) none) ∙ kinds)
 
-    pub is_walk : (ix : RowIndex) → slice_get p.indexes.items k ≡ Some ix
-        → IsWalk g index x.of x.key x.edge key (list_in ix.lists (code_of (project ix.key key)))
-    is_walk ix here = record {
+    pub is_walk : (ix : RowIndex) → slice_get p.indexes.items k ≡ Some ix → (ps : List Place) → ps ≡ list_in ix.lists (code_of (project ix.key key))
+        → Rising place_cmp ps → IsWalk g index x.of x.key x.edge key ps
+    is_walk ix here ps all rising = record {
       at = at;
-      rising = ix.rising (code_of (project ix.key key));
-      listed = λ q. subst (λ z. has place_cmp q (list_in ix.lists (code_of (project ix.key key)))
+      rising = rising;
+      listed = λ q. ap (has place_cmp q) all ∙ subst (λ z. has place_cmp q (list_in ix.lists (code_of (project ix.key key)))
           ≡ (stands z.0 z.1 (code_of (project z.0 key)) q && held_by g.goals.held.rows x.of q.row q.number)) same
           (g.good.held.listed x.of k ix (ap (option_and_then (λ p. slice_get p.indexes.items k)) step ∙ here) (code_of (project ix.key key)) q);
     }
@@ -124,9 +125,9 @@ zero_le : (n : ℕ) → nat_le 0 n ≡ true
 zero_le n = le-leb 0 n (omega arith)
 
 module _ (w : RowsFrom) where
-  edges : Each (λ p. p.edge ≡ edge_of w.edge p.row.span) (filter (shows w) w.places.now)
-  edges = each_map _ _ (λ p l. l.edge) (filter (shows w) w.places.now)
-      (shown_listed w.store.now w.index w.step w.slots w.edge w.key.now w.places.now w.walk w.fit w.when w.high)
+  edges : Each (λ p. p.edge ≡ edge_of w.edge p.row.span) (filter (shows w) (all_lent w.places))
+  edges = each_map _ _ (λ p l. l.edge) (filter (shows w) (all_lent w.places))
+      (shown_listed w.store.now w.index w.step w.slots w.edge w.key.now (all_lent w.places) w.walk w.fit w.when w.high)
 
   abbrev from : ℕ → Range
   from low = record { edge = w.edge; low = low; high = w.high }
@@ -150,17 +151,17 @@ module _ (w : RowsFrom) where
       turn false h l = refl
 
   -- a walk that begins at the low end of a range
-  range_rows : (low : ℕ) → drop w.at w.places.now ≡ filter (λ x. not (is_lt (place_cmp x (least_at low)))) w.places.now
+  range_rows : (low : ℕ) → left w.places w.at ≡ filter (λ x. not (is_lt (place_cmp x (least_at low)))) (all_lent w.places)
       → rows_left w ≡ listed (slots_list w.slots) (from low) w.key.now (seen w.store.now w.step w.when)
   unfolding rows_left
-  range_rows low here = ap (λ ps. map (λ p. p.row) (filter (shows w) ps)) (here ∙ filter_agree _ _ (from_time low) w.places.now)
-      ∙ ap (map (λ p. p.row)) (filter_turn (shows w) (λ p. nat_le low p.edge) w.places.now)
-      ∙ rows_after w.edge low (filter (shows w) w.places.now) edges
+  range_rows low here = ap (λ ps. map (λ p. p.row) (filter (shows w) ps)) (here ∙ filter_agree _ _ (from_time low) (all_lent w.places))
+      ∙ ap (map (λ p. p.row)) (filter_turn (shows w) (λ p. nat_le low p.edge) (all_lent w.places))
+      ∙ rows_after w.edge low (filter (shows w) (all_lent w.places)) edges
       ∙ ap (filter (λ r. nat_le low (edge_of w.edge r.span)))
-      (shown_rows w.store.now w.index w.step w.slots w.edge w.key.now w.places.now w.walk w.fit w.when w.high)
+      (shown_rows w.store.now w.index w.step w.slots w.edge w.key.now (all_lent w.places) w.walk w.fit w.when w.high)
       ∙ cut low
 
-  pub opened : (range : Range) → w.high ≡ range.high → drop w.at w.places.now ≡ filter (λ x. not (is_lt (place_cmp x (least_at range.low)))) w.places.now
+  pub opened : (range : Range) → w.high ≡ range.high → left w.places w.at ≡ filter (λ x. not (is_lt (place_cmp x (least_at range.low)))) (all_lent w.places)
       → (ix : PlainIndex) → slice_get (indexes_of w.store.now) w.index ≡ Some ix → ix.edge ≡ range.edge
       → rows_left w ≡ listed ix.key range w.key.now (seen w.store.now ix.of w.when)
   opened range high here ix index edge =
@@ -172,12 +173,12 @@ module _ (w : RowsFrom) where
 
   -- a walk that begins at a row
   pub resumed : (c : Cursor) (n : ℕ) (r : Row) → c.number ≡ Some n → row_at w.store.now n ≡ Some r → w.key.now ≡ r.binding → c.index ≡ w.index
-      → c.high ≡ w.high → c.when ≡ w.when → drop w.at w.places.now ≡ filter (λ x. not (is_lt (place_cmp x (place_at w.edge r n)))) w.places.now
+      → c.high ≡ w.high → c.when ≡ w.when → left w.places w.at ≡ filter (λ x. not (is_lt (place_cmp x (place_at w.edge r n)))) (all_lent w.places)
       → rows_left w ≡ rest w.store.now c
   unfolding rows_left
   resumed c n r number row key index high when here =
-      rows_from_place w.store.now w.index w.step w.slots w.edge w.key.now w.places.now w.walk w.fit w.when w.high (place_at w.edge r n)
-      (record { row = row; edge = refl }) w.at here
+      rows_from_place w.store.now w.index w.step w.slots w.edge w.key.now (all_lent w.places) w.walk w.fit w.when w.high (place_at w.edge r n)
+      (record { row = row; edge = refl }) (left w.places w.at) here
       ∙ (λ i. filter (λ x. not (is_lt (edge_cmp w.edge x r))) (listed (slots_list w.slots) (record { edge = w.edge; low = 0; high = sym high i })
       (key i) (seen w.store.now w.step (sym when i))))
       ∙ sym (rest_is w.store.now c n r (record { of = w.step; key = slots_list w.slots; edge = w.edge }) number row
@@ -194,16 +195,13 @@ one_place g index step slots edge key places walk fit w high n r row p h e =
     let same : p.row ≡ r = some_same p.row r (sym l.row ∙ ap (row_at g) e ∙ row) in
     λ i. record { edge = (l.edge ∙ ap (λ z. edge_of edge z.span) same) i; row = same i; number = e i }
 
-has_there : (xs : List Place) (k : ℕ) (p : Place) → slice_get xs k ≡ Some p → has place_cmp p xs ≡ true
-has_there xs k p e = has_at xs k p (sym (get_or_from_slice_get xs k p p e)) (slice_get_within xs k p e)
-
-pub upward_there : (xs : List Place) → Rising place_cmp xs → (k : ℕ) (p q : Place) → slice_get xs k ≡ Some p
-    → ((p : Place) → has place_cmp p xs ≡ true → p.number ≡ q.number → p ≡ q) → p.number ≡ q.number
-    → drop k xs ≡ filter (λ x. not (is_lt (place_cmp x q))) xs
-upward_there xs r k p q e one number =
-    let same = one p (has_there xs k p e) number in
-    (at_found exact_places q xs r k (slice_get_within xs k p e)
-    (λ d. ap (λ x. place_cmp x q) (get_or_from_slice_get xs k p d e ∙ same) ∙ tied_itself exact_places.total q)).1
+-- from where a row stands under its number
+pub upward_there : (r : Run Place) (at : Position) (p q : Place) (zs : List Place) → left r at ≡ p ∷ zs → IsRun place_cmp r
+    → ((p : Place) → has place_cmp p (all_lent r) ≡ true → p.number ≡ q.number → p ≡ q) → p.number ≡ q.number
+    → left r at ≡ filter (λ x. not (is_lt (place_cmp x q))) (all_lent r)
+upward_there r at p q zs here run one number =
+    subst (λ z. left r at ≡ filter (λ x. not (is_lt (place_cmp x z))) (all_lent r)) (one p (has_at r at p zs here) number)
+    (upward r at p zs here run.rising)
 
 -- ---- cursors before nothing
 

@@ -1,10 +1,10 @@
 -- What a walk over an index gives: the rows that the definition lists, in its order.
-use Rattle.std.proofs.Common.{ℕ, zero, suc, ◌≡◌, ◌≢◌, ◌<◌, ◌≤◌, ◌==◌, ◌&&◌, ◌||◌, not, cond, Bool, true, false, List, [], ◌∷◌, length, map, drop, Option, Some, None, refl, ap, sym, ◌∙◌, subst, inl, inr, arith, nat_le}
+use Rattle.std.proofs.Common.{ℕ, zero, ◌≡◌, ◌≢◌, ◌<◌, ◌≤◌, ◌==◌, ◌&&◌, ◌||◌, not, cond, Bool, true, false, List, [], ◌∷◌, map, Option, Some, None, refl, ap, sym, ◌∙◌, inl, inr, arith, nat_le}
 use Rattle.std.specs.List.{filter}
 use Rattle.std.specs.Option.{is_some, option_map_or}
 use Rattle.std.specs.Ordering.{is_eq, is_lt, nat_cmp, ordering_then, on, then_cmp}
 use Rattle.std.specs.Bool.{Decides}
-use Rattle.std.proofs.Common.{get_or, ◌+◌, drop-cons, add-one}
+use Rattle.std.proofs.Common.{◌++◌}
 use Rattle.std.specs.Cmp.{tied_itself}
 use Rattle.std.specs.Cmp.Lexicographic.{slice_cmp}
 use Rattle.std.specs.declared.cmp.Ordering.{Ordering}
@@ -12,6 +12,7 @@ use Rattle.std.specs.declared.cmp.Ordering.TheVariants.{Less, Equal, Greater}
 use Rattle.std.proofs.Math.Bool.{and-false}
 use Rattle.std.specs.Cmp.{nat_cmp_is}
 use Rattle.std.proofs.lemmas.Bool.{true≢false, eqb-true, eq-eqb, false_from_ne_true, and_parts, cases_lt, leb-true, le-leb}
+use Rattle.key_lists.proofs.Places.{at_found}
 use Rattle.ordered_lists.specs.Canon.{canon, has, AllAbove, Rising, Exact, canon_one, Rising-canon, Rising-filter, has-canon, has-filter}
 use Rattle.ordered_lists.specs.Lists.{Each, Each-filter}
 use Rattle.ordered_lists.specs.Members.{filter_agree}
@@ -285,10 +286,10 @@ module _ (g : GoalStore) (index step slots : ℕ) (edge : Edge) (key : Pairs) (p
       (Rising-canon (exact_edges edge) (filter (is_listed (slots_list slots) (record { edge = edge; low = 0; high = high }) key) (seen g step w))) has_same
 
   -- from a place on
-  pub shown_from : (q : Place) → Listed g.goals.held.rows table edge q → (at : ℕ)
-      → drop at places ≡ filter (λ x. not (is_lt (place_cmp x q))) places
-      → map (λ p. p.row) (filter shows (drop at places)) ≡ filter (λ r. not (is_lt (edge_cmp edge r q.row))) all_rows
-  shown_from q l at here = ap (λ ps. map (λ p. p.row) (filter shows ps)) here
+  pub shown_from : (q : Place) → Listed g.goals.held.rows table edge q → (ps : List Place)
+      → ps ≡ filter (λ x. not (is_lt (place_cmp x q))) places
+      → map (λ p. p.row) (filter shows ps) ≡ filter (λ r. not (is_lt (edge_cmp edge r q.row))) all_rows
+  shown_from q l ps here = ap (λ ps. map (λ p. p.row) (filter shows ps)) here
       ∙ ap (map (λ p. p.row)) (filter_turn shows (λ x. not (is_lt (place_cmp x q))) places)
       ∙ rows_upward g.goals.held.rows table edge q l (filter shows places) shown_listed
       ∙ ap (filter (λ r. not (is_lt (edge_cmp edge r q.row)))) shown_rows
@@ -372,35 +373,22 @@ decides_same b x y d = same_Bool _ _ (λ h. (same_pairs_decides x y).1 (d.0 h)) 
 
 -- ---- one place after the other
 
-module _ (q : Place → Bool) (xs : List Place) (at : ℕ) (p : Place) (is : p ≡ get_or xs at p) (within : at < length xs) where
-  here : drop at xs ≡ p ∷ drop (at + 1) xs
-  here = drop-cons xs at p within ∙ (λ i. sym is i ∷ drop (sym (add-one at) i) xs)
+pub step_on : (q : Place → Bool) (xs : List Place) (p : Place) (zs : List Place) → xs ≡ p ∷ zs → q p ≡ true → filter q xs ≡ p ∷ filter q zs
+step_on q xs p zs here e = ap (filter q) here ∙ ap (λ b. cond b (p ∷ filter q zs) (filter q zs)) e
 
-  pub step_past : q p ≡ false → filter q (drop at xs) ≡ filter q (drop (at + 1) xs)
-  step_past e = ap (filter q) here ∙ ap (λ b. cond b (p ∷ filter q (drop (at + 1) xs)) (filter q (drop (at + 1) xs))) e
+-- the end of a list in order is in order
+pub rising_end : (ys xs : List Place) → Rising place_cmp (ys ++ xs) → Rising place_cmp xs
+rising_end [] xs r = r
+rising_end (y ∷ ys) xs r = rising_end ys xs r.1
 
-  pub step_on : q p ≡ true → filter q (drop at xs) ≡ p ∷ filter q (drop (at + 1) xs)
-  step_on e = ap (filter q) here ∙ ap (λ b. cond b (p ∷ filter q (drop (at + 1) xs)) (filter q (drop (at + 1) xs))) e
+module _ {K : Type 0} {R : K → K → Ordering} (o : Exact R) (p : K) (zs : List K) where
+  below_it : (y : K) (ys : List K) → AllAbove R y (ys ++ p ∷ zs) → R y p ≡ Less
+  below_it y [] a = a.0
+  below_it y (x ∷ ys) a = below_it y ys a.1
 
-  above_at : (ys : List Place) → Rising place_cmp ys → (k : ℕ) → drop k ys ≡ p ∷ drop (at + 1) xs → AllAbove place_cmp p (drop (at + 1) xs)
-  above_at ys r k e = let h = rising_drop ys r k in (subst (λ l. Rising place_cmp l) e h).0
-    where
-      rising_drop : (ys : List Place) → Rising place_cmp ys → (k : ℕ) → Rising place_cmp (drop k ys)
-      rising_drop ys r zero = r
-      rising_drop [] r (suc k) = tt
-      rising_drop (y ∷ ys) r (suc k) = rising_drop ys r.1 k
-
-  -- behind the end of a range there is nothing
-  pub step_end : (t : RowTable Row Mark) (step : ℕ) (w : When) (slots : ℕ) (key : Pairs) (high : ℕ) → Rising place_cmp xs → high < p.edge
-      → filter (is_shown t step w slots key high) (drop at xs) ≡ []
-  step_end t step w slots key high r h =
-      ap (filter (is_shown t step w slots key high)) here ∙ none_past t step w slots key high p (drop (at + 1) xs) h (above_at xs r at here)
-
-pub drop_end : (xs : List Place) (at : ℕ) → length xs ≤ at → drop at xs ≡ []
-drop_end [] zero h = refl
-drop_end [] (suc at) h = refl
-drop_end (x ∷ xs) zero h = absurd (omega (arith, h))
-drop_end (x ∷ xs) (suc at) h = drop_end xs at (omega (arith, h))
-
-pub same_place : (p q : Place) → Some p ≡ Some q → p ≡ q
-same_place p q e = cc
+  -- from an element on stands what doesn't come before it
+  pub from_element : (ys : List K) → Rising R (ys ++ p ∷ zs) → p ∷ zs ≡ filter (λ x. not (is_lt (R x p))) (ys ++ p ∷ zs)
+  from_element [] r = (at_found o p (p ∷ zs) r zero (omega arith) (λ d. tied_itself o.total p)).1
+  from_element (y ∷ ys) r = from_element ys r.1
+      ∙ sym (ap (λ c. cond (not (is_lt c)) (y ∷ filter (λ x. not (is_lt (R x p))) (ys ++ p ∷ zs)) (filter (λ x. not (is_lt (R x p))) (ys ++ p ∷ zs)))
+      (below_it y ys r.0))

@@ -4,8 +4,10 @@ ghost use Rattle.std.specs.Option.{option_copied};
 ghost use Rattle.rule_ast.specs.PlainPlans.{PlainIndex, plain_index};
 ghost use Rattle.row_changes.specs.Partners.{listed};
 ghost use Rattle.row_table.specs.Pairs.{get};
+ghost use Rattle.key_lists.specs.Pieces.{all_lent, IsRun};
 ghost use Rattle.goal_store.specs.Marks.{seen_as, was_old};
 ghost use Rattle.goal_store.specs.Goals.{mark_at, seen, row_at, steps_of, indexes_of, number_of, rest, SamePlan, Marks, SameMarks, SameRows, KeptRows, Settled};
+ghost use Rattle.goal_store.specs.Places.{place_cmp};
 ghost use Rattle.goal_store.specs.Walked.{IsWalk};
 ghost use Rattle.goal_store.specs.Walks.{rows_left};
 
@@ -18,6 +20,7 @@ use crate::places::Place;
 use crate::walks::RowsFrom;
 use ev_bind::{Binding, Row};
 use interval_ops::Range;
+use key_lists::{Position, Run};
 use rule_ast::{Index, IndexId, Plan, StepId};
 use std::alloc::{AllocError, Global};
 
@@ -179,20 +182,21 @@ impl GoalStore {
     }
 
     // The list of an index in which the rows with a key stand.
-    fn places_of(&self, index: IndexId, info: Index, key: &Binding) -> &[Place]
+    fn places_of(&self, index: IndexId, info: Index, key: &Binding) -> Run<'_, Place>
         requires index { slice_get self.now.indexes.items index ≡ Some info }
-        ensures { IsWalk self.now index info.of info.key info.edge key.now result.now }
+        ensures walk { IsWalk self.now index info.of info.key info.edge key.now (all_lent result) }
+        ensures run { IsRun place_cmp result }
     {
-        match self.goals.held.steps.get(info.of as usize) {
-            None => &[],
-            Some(places) => match self.spots.get(index as usize) {
-                None => &[],
-                Some(spot) => match places.indexes.get(*spot) {
-                    None => &[],
-                    Some(rows) => rows.places(key),
-                },
-            },
-        }
+        let Some(places) = self.goals.held.steps.get(info.of as usize) else {
+            return Run::none();
+        };
+        let Some(spot) = self.spots.get(index as usize) else {
+            return Run::none();
+        };
+        let Some(rows) = places.indexes.get(*spot) else {
+            return Run::none();
+        };
+        rows.places(key)
     }
 
     /// A walk over the rows of an index that are seen, have a key and lie in a range, by the time of the range's edge, which is
@@ -222,7 +226,7 @@ impl GoalStore {
                     places,
                     high: range.high,
                     when,
-                    at: first_at(places, range.low),
+                    at: first_at(&places, range.low),
                     edge: info.edge,
                 })
             }
@@ -256,7 +260,7 @@ impl GoalStore {
                     places,
                     high: cursor.high,
                     when: cursor.when,
-                    at: place_of(places, cursor.hint, info.edge, row, number),
+                    at: place_of(&places, cursor.hint, info.edge, row, number),
                     edge: info.edge,
                 })
             }
@@ -275,7 +279,7 @@ impl GoalStore {
                 when,
                 high: range.high,
                 number: None,
-                hint: 0,
+                hint: Position::start(),
             },
             Some(rows) => rows.cursor(),
         }

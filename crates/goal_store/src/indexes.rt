@@ -1,9 +1,10 @@
 // The rows of a step by the values at the slots of a key, in the order of an edge.
-ghost use Rattle.std.specs.Prelude.{◌≡◌, ◌≤◌, true, not, length, drop};
+ghost use Rattle.std.specs.Prelude.{◌≡◌, true, not};
 ghost use Rattle.std.specs.List.{filter};
 ghost use Rattle.std.specs.Ordering.{is_lt};
-ghost use Rattle.ordered_lists.specs.Canon.{has, Rising};
+ghost use Rattle.ordered_lists.specs.Canon.{has};
 ghost use Rattle.key_lists.specs.Lists.{list_in, InOrder};
+ghost use Rattle.key_lists.specs.Pieces.{all_lent, left, IsRun};
 ghost use Rattle.interval_ops.specs.Operators.{edge_of};
 ghost use Rattle.goal_store.specs.Places.{place_cmp, place_at, least_at};
 ghost use Rattle.goal_store.specs.declared.places.Place.{Place};
@@ -12,7 +13,7 @@ ghost use Rattle.goal_store.specs.Rising.{InOrder-prop};
 use crate::places::{Place, Spot};
 use ev_bind::{Binding, Row};
 use event_model::{Edge, Slots, Span};
-use key_lists::{KeyLists, place_from, place_from_like};
+use key_lists::{KeyLists, Position, Run};
 use std::alloc::{AllocError, Global};
 
 /// Rows under the hash of their key. The lists of two keys with one hash are one list.
@@ -82,19 +83,19 @@ impl RowIndex {
     }
 
     /// The list in which the rows with this key stand.
-    pub(crate) fn places(&self, key: &Binding) -> &[Place]
-        ensures { result.now ≡ list_in self.now.lists (code_of (project self.now.key key.now)) }
+    pub(crate) fn places(&self, key: &Binding) -> Run<'_, Place>
+        ensures all { all_lent result ≡ list_in self.now.lists (code_of (project self.now.key key.now)) }
+        ensures run { IsRun place_cmp result }
     {
-        self.lists.items(key.hash_on(&self.key))
+        self.lists.run(key.hash_on(&self.key))
     }
 }
 
 /// Where the rows begin whose edge isn't below a time.
 #[tactic(auto, using(crate::specs::Places::exact_places))]
-pub(crate) fn first_at(places: &[Place], low: u64) -> usize
-    requires rising { Rising place_cmp places.now }
-    ensures within { result ≤ length places.now }
-    ensures rest { drop result places.now ≡ filter (λ x. not (is_lt (place_cmp x (least_at low)))) places.now }
+pub(crate) fn first_at(places: &Run<'_, Place>, low: u64) -> Position
+    requires run { IsRun place_cmp places.now }
+    ensures { left places.now result ≡ filter (λ x. not (is_lt (place_cmp x (least_at low)))) (all_lent places.now) }
 {
     let least = Row {
         binding: Binding::empty(),
@@ -105,18 +106,23 @@ pub(crate) fn first_at(places: &[Place], low: u64) -> usize
         row: &least,
         number: 0,
     };
-    place_from_like(places, &spot)
+    places.from_like(&spot)
 }
 
 /// Where a row stands, or would stand, under its number. The hint is tried first.
 #[tactic(auto, using(crate::specs::Places::exact_places))]
-pub(crate) fn place_of(places: &[Place], hint: usize, edge: Edge, row: &Row, number: usize) -> usize
-    requires rising { Rising place_cmp places.now }
-    requires one { (p : Place) → has place_cmp p places.now ≡ true → p.number ≡ number → p ≡ place_at edge row.now number }
-    ensures within { result ≤ length places.now }
-    ensures rest { drop result places.now ≡ filter (λ x. not (is_lt (place_cmp x (place_at edge row.now number)))) places.now }
+pub(crate) fn place_of(
+    places: &Run<'_, Place>,
+    hint: Position,
+    edge: Edge,
+    row: &Row,
+    number: usize,
+) -> Position
+    requires run { IsRun place_cmp places.now }
+    requires one { (p : Place) → has place_cmp p (all_lent places.now) ≡ true → p.number ≡ number → p ≡ place_at edge row.now number }
+    ensures { left places.now result ≡ filter (λ x. not (is_lt (place_cmp x (place_at edge row.now number)))) (all_lent places.now) }
 {
-    if let Some(place) = places.get(hint) {
+    if let Some((place, _)) = places.next(hint) {
         if place.number == number {
             return hint;
         }
@@ -126,5 +132,5 @@ pub(crate) fn place_of(places: &[Place], hint: usize, edge: Edge, row: &Row, num
         row,
         number,
     };
-    place_from_like(places, &spot)
+    places.from_like(&spot)
 }

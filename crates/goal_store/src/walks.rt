@@ -1,6 +1,7 @@
 // Walks over the rows of an index with a key, in a range.
 ghost use Rattle.goal_store.specs.Walked.{IsWalk, IsWalk-prop};
 ghost use Rattle.goal_store.specs.Fits.{SlotsFit, SlotsFit-prop};
+ghost use Rattle.key_lists.specs.Pieces.{all_lent};
 
 use crate::cursors::Cursor;
 use crate::kept::GoalStore;
@@ -8,6 +9,7 @@ use crate::marks::When;
 use crate::places::Place;
 use ev_bind::{Binding, Row};
 use event_model::{Edge, Slots};
+use key_lists::{Position, Run};
 use rule_ast::{IndexId, StepId};
 
 /// A walk over the rows of an index that are seen, have a key and lie in a range. It borrows the store, and spares the search
@@ -19,23 +21,30 @@ pub struct RowsFrom<'a> {
     pub(crate) step: StepId,
     pub(crate) slots: Slots,
     pub(crate) key: &'a Binding,
-    pub(crate) places: &'a [Place],
+    pub(crate) places: Run<'a, Place>,
     pub(crate) high: u64,
     pub(crate) when: When,
-    pub(crate) at: usize,
+    pub(crate) at: Position,
     pub(crate) edge: Edge,
-    ghost walk: { IsWalk store.now index step slots edge key.now places.now } by { IsWalk-prop store.now index step slots edge key.now places.now },
+    ghost walk: { IsWalk store.now index step slots edge key.now (all_lent places) } by { IsWalk-prop store.now index step slots edge key.now (all_lent places) },
     ghost fit: { SlotsFit slots } by { SlotsFit-prop slots },
 }
 
+// A place, where it stands, and where what is behind it stands.
+#[derive(Clone, Copy, Drop)]
+struct Stop<'a> {
+    place: &'a Place,
+    at: Position,
+    behind: Position,
+}
+
 impl<'a> RowsFrom<'a> {
-    ghost use Rattle.std.specs.Prelude.{◌≡◌, ◌<◌, ◌&&◌, ◌+◌, true, [], ◌∷◌, length, map, slice_get, Some, IfSome, IfNone, MatchOption};
+    ghost use Rattle.std.specs.Prelude.{◌≡◌, ◌&&◌, [], ◌∷◌, map, IfSome, IfNone, MatchOption};
     ghost use Rattle.ev_bind.specs.Projections.{project, same_pairs};
     ghost use Rattle.row_table.specs.Steps.{step_value};
     ghost use Rattle.goal_store.specs.Goals.{rest};
     ghost use Rattle.goal_store.specs.Marks.{seen_as};
-    ghost use Rattle.goal_store.specs.Walks.{rows_left, shows, shown_from};
-    ghost use Rattle.goal_store.specs.declared.places.Place.{Place};
+    ghost use Rattle.goal_store.specs.Walks.{rows_left, shown_from, StopsAt};
 
     // Whether the row is seen and has the key.
     fn shows(&self, place: &Place) -> bool
@@ -49,38 +58,27 @@ impl<'a> RowsFrom<'a> {
     }
 
     // Where the next row stands.
-    fn seek(&self) -> Option<usize>
+    fn seek(&self) -> Option<Stop<'a>>
         ensures none { IfNone result (shown_from self.now self.now.at ≡ []) }
-        ensures within { IfSome result (λ at. at < length self.now.places.now) }
-        ensures shown { IfSome result (λ at. (p : Place) → slice_get self.now.places.now at ≡ Some p → shows self.now p ≡ true) }
-        ensures rest { IfSome result (λ at. shown_from self.now self.now.at ≡ shown_from self.now at) }
+        ensures stop { IfSome result (λ s. StopsAt self.now s.place.now s.at s.behind) }
     {
-        for at in self.at..self.places.len() {
-            let place = &self.places[at];
+        let mut at = self.at;
+        while let Some((place, behind)) = self.places.next(at) {
             if place.edge > self.high {
                 return None;
             }
             if self.shows(place) {
-                return Some(at);
+                return Some(Stop { place, at, behind });
             }
+            at = behind;
         }
         None
     }
 
-    // The row at a place.
-    fn row_of(&self, at: usize) -> &'a Row
-        requires within { at < length self.now.places.now }
-        ensures { (p : Place) → slice_get self.now.places.now at ≡ Some p → result.now ≡ p.row }
-    {
-        let places = self.places;
-        &places[at].row
-    }
-
-    // The walk behind a place.
+    // The walk that stands at a position.
     #[tactic(auto, using(crate::proofs::Standing::left_is))]
-    fn past(&self, at: usize) -> RowsFrom<'a>
-        requires within { at < length self.now.places.now }
-        ensures rows { rows_left result ≡ map (λ p. p.row) (shown_from self.now (at + 1)) }
+    fn standing_at(&self, at: Position) -> RowsFrom<'a>
+        ensures rows { rows_left result ≡ map (λ p. p.row) (shown_from self.now at) }
         ensures store { result.store.now ≡ self.now.store.now }
     {
         RowsFrom {
@@ -92,7 +90,7 @@ impl<'a> RowsFrom<'a> {
             places: self.places,
             high: self.high,
             when: self.when,
-            at: at + 1,
+            at,
             edge: self.edge,
         }
     }
@@ -105,7 +103,7 @@ impl<'a> RowsFrom<'a> {
     {
         match self.seek() {
             None => None,
-            Some(at) => Some((self.row_of(at), self.past(at))),
+            Some(stop) => Some((&stop.place.row, self.standing_at(stop.behind))),
         }
     }
 
@@ -119,14 +117,14 @@ impl<'a> RowsFrom<'a> {
                 when: self.when,
                 high: self.high,
                 number: None,
-                hint: 0,
+                hint: Position::start(),
             },
-            Some(at) => Cursor {
+            Some(stop) => Cursor {
                 index: self.index,
                 when: self.when,
                 high: self.high,
-                number: Some(self.places[at].number),
-                hint: at,
+                number: Some(stop.place.number),
+                hint: stop.at,
             },
         }
     }

@@ -2,6 +2,7 @@
 ghost use Rattle.std.specs.Prelude.{◌≡◌, ◌∷◌, [], ℕ, not, slice_get, MatchOption, option_map, ⊤};
 ghost use Rattle.std.specs.List.{filter};
 ghost use Rattle.std.specs.Ordering.{is_lt};
+ghost use Rattle.std.specs.declared.cmp.Ordering.{Ordering};
 ghost use Rattle.ordered_lists.specs.Canon.{Exact};
 ghost use Rattle.key_lists.specs.Pieces.{all_lent, left, pieces_of, IsRun};
 
@@ -46,7 +47,8 @@ impl<'a, T> Clone for Run<'a, T> {
 impl<'a, T> Run<'a, T> {
     /// No element.
     pub fn none() -> Run<'a, T>
-        ensures { all_lent result ≡ [] }
+        ensures all { all_lent result ≡ [] }
+        ensures run { (R : T → T → Ordering) → IsRun R result }
     {
         Run {
             first: &[],

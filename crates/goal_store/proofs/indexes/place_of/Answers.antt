@@ -1,9 +1,9 @@
-use Rattle.std.proofs.Common.{refl}
+use Rattle.key_lists.specs.Pieces.{left}
 use Rattle.goal_store.specs.Places.{place_at}
-use Rattle.goal_store.proofs.Opening.{upward_there, found}
+use Rattle.goal_store.proofs.Opening.{upward_there}
 use Rattle.goal_store.proofs.indexes.place_of.Goals as goal
 
-pub returns-then-place-number-clause-rest : goal.returns-then-place-number-clause-rest
-returns-then-place-number-clause-rest c =
-    upward_there c.args.places.now c.requires.rising c.args.hint c.in-Some.place.now (place_at c.args.edge c.args.row.now c.args.number)
-    (found _ _ c.args.hint c.in-Some.place.now refl c.in-Some.ensures.lookup.0 c.in-Some.ensures.lookup.1) c.requires.one c.if-place-number.true
+pub returns-then-place-number : goal.returns-then-place-number
+returns-then-place-number c =
+    upward_there c.args.places.now c.args.hint c.in-Some.place.now (place_at c.args.edge c.args.row.now c.args.number)
+    (left c.args.places.now c.in-Some.field-0-1) c.in-Some.ensures c.requires.run c.requires.one c.if-place-number.true

@@ -14,10 +14,10 @@ places_of-places-requires c = record {
 pub place_of-requires-clause-one : goal.place_of-requires-clause-one
 place_of-requires-clause-one c =
     one_place c.args.self.now c.args.cursor.now.index c.in-Some.info.now.of c.in-Some.info.now.key c.in-Some.info.now.edge c.in-Some-row.row.now.binding
-    c.places_of-places.result.now c.places_of-places.ensures (c.args.self.now.placed.fits c.args.cursor.now.index _ c.places_of-places.ensures.at)
+    _ c.places_of-places.ensures.walk (c.args.self.now.placed.fits c.args.cursor.now.index _ c.places_of-places.ensures.walk.at)
     c.args.cursor.now.when c.args.cursor.now.high c.in-Some-number.number c.in-Some-row.row.now (sym c.in-Some-row.ensures)
 
 pub returns-in-Some-row-clause-rows : goal.returns-in-Some-row-clause-rows
 returns-in-Some-row-clause-rows c =
     resumed _ c.args.cursor.now c.in-Some-number.number c.in-Some-row.row.now c.in-Some-number.is (sym c.in-Some-row.ensures) refl refl refl refl
-    c.place_of.ensures.rest
+    c.place_of.ensures
