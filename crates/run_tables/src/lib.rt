@@ -2,15 +2,11 @@
 #![tactic(auto)]
 
 #[cfg(test)]
-mod agreement;
-#[cfg(test)]
 mod failing;
 #[cfg(test)]
 mod fixtures;
 #[cfg(test)]
 mod limits;
-#[cfg(test)]
-mod modes;
 pub mod paths;
 #[cfg(test)]
 mod runs;
